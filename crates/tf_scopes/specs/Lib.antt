@@ -6,3 +6,4 @@ pub mod Given
 pub mod Symbols
 pub mod Scope
 pub mod Stored
+pub mod Order

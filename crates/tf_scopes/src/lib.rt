@@ -7,6 +7,7 @@ mod given;
 mod providers;
 mod scope;
 mod sources;
+mod standing;
 mod stored;
 mod symbols;
 

@@ -6,6 +6,7 @@ ghost use Rattle.tf_model.specs.History.{Snapshot, Shows};
 ghost use Rattle.tf_order.specs.Graph.{IsGraphOf};
 ghost use Rattle.tf_scopes.specs.Scope.{IsScopeIn};
 ghost use Rattle.tf_scopes.specs.Sources.{place_bound, source_of, sources_of};
+ghost use Rattle.tf_scopes.specs.Order.{HasPlaces, IsOrderOf};
 ghost use Rattle.tf_scopes.specs.Stored.{IsStoreOf};
 ghost use Rattle.tf_scopes.specs.Symbols.{Tells};
 ghost use Rattle.tf_scopes.specs.Providers.{IsOf, IsMissing};
@@ -13,8 +14,9 @@ ghost use Rattle.tf_scopes.specs.Found.{shown_in};
 
 use crate::faults::ScopeFault;
 use crate::found::{Found, found_in};
-use crate::scope::{Scope, find_givers, front_of};
+use crate::scope::{Scope, find_givers};
 use crate::sources::{Source, Sources};
+use crate::standing::StandingOrder;
 use crate::stored::Stored;
 use crate::symbols::Symbols;
 use std::alloc::Global;
@@ -94,9 +96,10 @@ pub fn find_providers(alloc: Global, plan: &Plan, graph: &Graph) -> Result<Provi
 {
     let symbols = Symbols::make(alloc, plan, graph)?;
     let stored = Stored::make(alloc, plan.store().items())?;
+    let standing = StandingOrder::make(alloc, graph)?;
     let mut providers = Providers::with_room(alloc, plan.atoms())?;
     for atom in 0..plan.atoms() {
-        let row = find_row(alloc, plan, graph, &symbols, &stored, atom)?;
+        let row = find_row(alloc, plan, graph, &symbols, &stored, &standing, atom)?;
         providers.push(row)?;
     }
     Ok(providers)
@@ -110,11 +113,14 @@ fn find_row(
     graph: &Graph,
     symbols: &Symbols,
     stored: &Stored,
+    standing: &StandingOrder<'_>,
     atom: u16,
 ) -> Result<Sources, ScopeFault>
     requires graph { IsGraphOf graph.now plan.now }
     requires symbols { Tells symbols.now (outline_of plan.now) }
     requires stored { IsStoreOf stored.now plan.now }
+    requires places { HasPlaces standing.now }
+    requires standing { IsOrderOf standing.now plan.now }
     requires atom { atom < count (outline_of plan.now) }
     ensures found { IfOk result (λ sources. sources ≡ sources_of (outline_of plan.now) atom) }
     ensures complete { OnOk result (missing_of (outline_of plan.now) atom ≡ None) }
@@ -124,7 +130,7 @@ fn find_row(
         graph,
         symbols,
         stored,
-        front: front_of(graph, atom),
+        front: standing.front(atom),
         atom,
     };
     find_sources(alloc, plan, &scope)
