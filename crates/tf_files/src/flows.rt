@@ -1,5 +1,6 @@
 ghost use Rattle.std.specs.Prelude.{◌≡◌, [], suc, map, codes, None, Ok, IfOk, IfErr};
 ghost use Rattle.tf_files.specs.document.Reading.{RefusesWith, each, required as spelled_at, optional as spelled_perhaps, array_of, binds_form as binds_spelled};
+ghost use Rattle.tf_files.specs.document.Places.{place_of};
 ghost use Rattle.tf_flow.specs.Tree.{tree_of};
 ghost use Rattle.tf_flow.specs.Plan.{as_written, item_as_written};
 ghost use Rattle.tf_files.specs.FlowFile.{root_form as root_spelled, flow_inside as inside_spelled, item_form as item_spelled, item_table as item_of, own_retry as retry_of_flow, nested_flow as nested_of, task_item as task_of, pattern_form as pattern_spelled, pattern_named as pattern_of, is_flow_table as is_table_of_flow};
@@ -51,7 +52,7 @@ fn store_at(alloc: Global, path: &Path, table: &Table) -> Result<Vec<Bind>, File
     ensures refused { IfErr result (RefusesWith (spelled_perhaps path.now (codes "store")
         (table_view table.now) [] binds_spelled)) }
 {
-    match optional(alloc, path, "store", table)? {
+    match optional(path, "store", table) {
         Some(field) => binds_form(alloc, &field),
         None => Ok(Vec::new(alloc)),
     }
@@ -66,28 +67,28 @@ fn kind_at(alloc: Global, path: &Path, table: &Table) -> Result<FlowKind, FileFa
         (table_view table.now) pattern_spelled)) }
 {
     let field = required(alloc, path, "kind", table)?;
-    pattern_form(alloc, field)
+    pattern_form(alloc, &field)
 }
 
 /// A kind of flow: `WrongKind` where the value is no string, `BadChoice` where it is another word.
-fn pattern_form(alloc: Global, field: Field<'_>) -> Result<FlowKind, FileFault>
-    ensures ok { IfOk result (λ kind. pattern_spelled field.entry.path (view field.entry.value.now) ≡ Ok kind) }
-    ensures refused { IfErr result (RefusesWith (pattern_spelled field.entry.path (view field.entry.value.now))) }
+fn pattern_form(alloc: Global, field: &Field<'_>) -> Result<FlowKind, FileFault>
+    ensures ok { IfOk result (λ kind. pattern_spelled (place_of field.now) (view field.now.value.now) ≡ Ok kind) }
+    ensures refused { IfErr result (RefusesWith (pattern_spelled (place_of field.now) (view field.now.value.now))) }
 {
     let word = field.word(alloc)?;
-    pattern_named(field.path, word)
+    pattern_named(alloc, field, word)
 }
 
 /// The kind of flow that a word is.
-fn pattern_named(path: Path, word: &str) -> Result<FlowKind, FileFault>
-    ensures ok { IfOk result (λ kind. pattern_of path word.now ≡ Ok kind) }
-    ensures refused { IfErr result (RefusesWith (pattern_of path word.now)) }
+fn pattern_named(alloc: Global, field: &Field<'_>, word: &str) -> Result<FlowKind, FileFault>
+    ensures ok { IfOk result (λ kind. pattern_of (place_of field.now) word.now ≡ Ok kind) }
+    ensures refused { IfErr result (RefusesWith (pattern_of (place_of field.now) word.now)) }
 {
     match word {
         "linear" => Ok(FlowKind::Linear),
         "unordered" => Ok(FlowKind::Unordered),
         "graph" => Ok(FlowKind::Graph),
-        _ => Err(FileFault::BadChoice(path)),
+        _ => Err(FileFault::BadChoice(field.path(alloc)?)),
     }
 }
 
@@ -126,7 +127,7 @@ fn retry_at(alloc: Global, path: &Path, table: &Table) -> Result<Option<Retry>, 
     ensures refused { IfErr result (RefusesWith (spelled_perhaps path.now (codes "retry")
         (table_view table.now) None retry_of_flow)) }
 {
-    match optional(alloc, path, "retry", table)? {
+    match optional(path, "retry", table) {
         Some(field) => own_retry(alloc, &field),
         None => Ok(None),
     }
@@ -134,8 +135,8 @@ fn retry_at(alloc: Global, path: &Path, table: &Table) -> Result<Option<Retry>, 
 
 /// A flow's own retry controller.
 fn own_retry(alloc: Global, field: &Field<'_>) -> Result<Option<Retry>, FileFault>
-    ensures ok { IfOk result (λ retry. retry_of_flow field.now.path (view field.now.value.now) ≡ Ok retry) }
-    ensures refused { IfErr result (RefusesWith (retry_of_flow field.now.path (view field.now.value.now))) }
+    ensures ok { IfOk result (λ retry. retry_of_flow (place_of field.now) (view field.now.value.now) ≡ Ok retry) }
+    ensures refused { IfErr result (RefusesWith (retry_of_flow (place_of field.now) (view field.now.value.now))) }
 {
     let retry = retry_form(alloc, field)?;
     Ok(Some(retry))
@@ -149,7 +150,7 @@ fn items_at(alloc: Global, left: u8, path: &Path, table: &Table) -> Result<Vec<I
     ensures refused { IfErr result (RefusesWith (spelled_perhaps path.now (codes "items") (table_view table.now) []
         (array_of (item_spelled left)))) }
 {
-    match optional(alloc, path, "items", table)? {
+    match optional(path, "items", table) {
         Some(field) => items_form(alloc, left, &field),
         None => Ok(Vec::new(alloc)),
     }
@@ -158,13 +159,14 @@ fn items_at(alloc: Global, left: u8, path: &Path, table: &Table) -> Result<Vec<I
 /// The items of an array.
 #[cycle(flows)]
 fn items_form(alloc: Global, left: u8, field: &Field<'_>) -> Result<Vec<Item>, FileFault>
-    ensures ok { IfOk result (λ items. array_of (item_spelled left) field.now.path (view field.now.value.now)
+    ensures ok { IfOk result (λ items. array_of (item_spelled left) (place_of field.now) (view field.now.value.now)
         ≡ Ok (map item_as_written items.items)) }
-    ensures refused { IfErr result (RefusesWith (array_of (item_spelled left) field.now.path
+    ensures refused { IfErr result (RefusesWith (array_of (item_spelled left) (place_of field.now)
         (view field.now.value.now))) }
 {
     let array = field.items(alloc)?;
-    each_item(alloc, left, &field.path, array)
+    let path = field.path(alloc)?;
+    each_item(alloc, left, &path, array)
 }
 
 /// Each item of an array.
@@ -174,9 +176,9 @@ fn each_item(alloc: Global, left: u8, path: &Path, array: &[Value]) -> Result<Ve
         ≡ Ok (map item_as_written items.items)) }
     ensures refused { IfErr result (RefusesWith (each (item_spelled left) path.now 0 (items_view array.now))) }
 {
-    let mut items = Vec::new(alloc);
+    let mut items = Vec::with_capacity(alloc, array.len())?;
     for (number, value) in array.iter().enumerate() {
-        let field = item_at(alloc, path, number, value)?;
+        let field = item_at(path, number, value);
         let item = item_form(alloc, left, &field)?;
         add(&mut items, item)?;
     }
@@ -186,12 +188,13 @@ fn each_item(alloc: Global, left: u8, path: &Path, array: &[Value]) -> Result<Ve
 /// An item: `WrongKind` where the value is no table.
 #[cycle(flows)]
 fn item_form(alloc: Global, left: u8, field: &Field<'_>) -> Result<Item, FileFault>
-    ensures ok { IfOk result (λ item. item_spelled left field.now.path (view field.now.value.now)
+    ensures ok { IfOk result (λ item. item_spelled left (place_of field.now) (view field.now.value.now)
         ≡ Ok (item_as_written item)) }
-    ensures refused { IfErr result (RefusesWith (item_spelled left field.now.path (view field.now.value.now))) }
+    ensures refused { IfErr result (RefusesWith (item_spelled left (place_of field.now) (view field.now.value.now))) }
 {
     let table = field.table(alloc)?;
-    item_table(alloc, left, &field.path, table)
+    let path = field.path(alloc)?;
+    item_table(alloc, left, &path, table)
 }
 
 /// The item of a table: a flow where it has the key `flow` and not the key `task`, else a task.

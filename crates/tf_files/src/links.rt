@@ -1,6 +1,7 @@
 ghost use Rattle.std.specs.Prelude.{◌≡◌, [], map, codes, None, Ok, IfOk, OnOk, IfErr};
 ghost use Rattle.tf_flow.specs.Outline.{connection_of};
 ghost use Rattle.tf_files.specs.document.Reading.{RefusesWith, each, known_only as read_known, unknown_key, optional as spelled_perhaps};
+ghost use Rattle.tf_files.specs.document.Places.{place_of};
 ghost use Rattle.tf_files.specs.FlowFile.{link_keys as keys_of, link_table as link_of, link_form as link_spelled, links_form as links_spelled};
 ghost use Rattle.toml.specs.View.{view, items_view, table_view};
 
@@ -18,7 +19,7 @@ pub fn links_at(alloc: Global, path: &Path, table: &Table) -> Result<Vec<Link>, 
     ensures refused { IfErr result (RefusesWith (spelled_perhaps path.now (codes "links")
         (table_view table.now) [] links_spelled)) }
 {
-    match optional(alloc, path, "links", table)? {
+    match optional(path, "links", table) {
         Some(field) => links_form(alloc, &field),
         None => Ok(Vec::new(alloc)),
     }
@@ -26,12 +27,13 @@ pub fn links_at(alloc: Global, path: &Path, table: &Table) -> Result<Vec<Link>, 
 
 /// The links of an array.
 fn links_form(alloc: Global, field: &Field<'_>) -> Result<Vec<Link>, FileFault>
-    ensures ok { IfOk result (λ links. links_spelled field.now.path (view field.now.value.now)
+    ensures ok { IfOk result (λ links. links_spelled (place_of field.now) (view field.now.value.now)
         ≡ Ok (map connection_of links.items)) }
-    ensures refused { IfErr result (RefusesWith (links_spelled field.now.path (view field.now.value.now))) }
+    ensures refused { IfErr result (RefusesWith (links_spelled (place_of field.now) (view field.now.value.now))) }
 {
     let array = field.items(alloc)?;
-    each_link(alloc, &field.path, array)
+    let path = field.path(alloc)?;
+    each_link(alloc, &path, array)
 }
 
 /// The links of an array's items.
@@ -40,9 +42,9 @@ fn each_link(alloc: Global, path: &Path, array: &[Value]) -> Result<Vec<Link>, F
         ≡ Ok (map connection_of links.items)) }
     ensures refused { IfErr result (RefusesWith (each link_spelled path.now 0 (items_view array.now))) }
 {
-    let mut links = Vec::new(alloc);
+    let mut links = Vec::with_capacity(alloc, array.len())?;
     for (number, value) in array.iter().enumerate() {
-        let field = item_at(alloc, path, number, value)?;
+        let field = item_at(path, number, value);
         let link = link_form(alloc, &field)?;
         add(&mut links, link)?;
     }
@@ -51,12 +53,13 @@ fn each_link(alloc: Global, path: &Path, array: &[Value]) -> Result<Vec<Link>, F
 
 /// The link of an item.
 fn link_form(alloc: Global, field: &Field<'_>) -> Result<Link, FileFault>
-    ensures ok { IfOk result (λ link. link_spelled field.now.path (view field.now.value.now)
+    ensures ok { IfOk result (λ link. link_spelled (place_of field.now) (view field.now.value.now)
         ≡ Ok (connection_of link)) }
-    ensures refused { IfErr result (RefusesWith (link_spelled field.now.path (view field.now.value.now))) }
+    ensures refused { IfErr result (RefusesWith (link_spelled (place_of field.now) (view field.now.value.now))) }
 {
     let table = field.table(alloc)?;
-    link_table(alloc, &field.path, table)
+    let path = field.path(alloc)?;
+    link_table(alloc, &path, table)
 }
 
 /// The link of a table.

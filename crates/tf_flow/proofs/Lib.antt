@@ -11,3 +11,4 @@ pub mod WrittenLemmas
 pub mod AlikeLemmas
 pub mod ListingLemmas
 pub mod NumberingLemmas
+pub mod AscentLemmas

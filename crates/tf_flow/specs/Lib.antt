@@ -7,3 +7,4 @@ pub mod Items
 pub mod Outline
 pub mod Paths
 pub mod Listing
+pub mod Ascending

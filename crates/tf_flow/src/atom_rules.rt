@@ -139,34 +139,13 @@ fn repeats_itself(
 ) -> Result<bool, Memory>
     ensures { IfOk result (λ repeats. repeats ≡ rule.repeats_itself args.now inject.now provides.now) }
 {
-    if has_arg_twice(alloc, args)? {
+    if has_name_twice(alloc, args)? {
         return Ok(true);
     }
-    if has_symbol_twice(alloc, inject)? {
+    if has_name_twice(alloc, inject)? {
         return Ok(true);
     }
     has_provided_twice(alloc, provides)
-}
-
-fn has_arg_twice(alloc: Global, args: &[Arg]) -> Result<bool, Memory>
-    ensures { IfOk result (λ twice. twice ≡ has_twice (rule.arg_names args.now)) }
-{
-    let mut names = Vec::with_capacity(alloc, args.len())?;
-    for arg in args {
-        names.push(arg.name)?;
-    }
-    has_name_twice(alloc, &names)
-}
-
-/// Whether a symbol is bound twice.
-pub fn has_symbol_twice(alloc: Global, binds: &[Bind]) -> Result<bool, Memory>
-    ensures { IfOk result (λ twice. twice ≡ has_twice (rule.bind_symbols binds.now)) }
-{
-    let mut symbols = Vec::with_capacity(alloc, binds.len())?;
-    for bind in binds {
-        symbols.push(bind.symbol)?;
-    }
-    has_name_twice(alloc, &symbols)
 }
 
 fn has_provided_twice(alloc: Global, provides: &Provides) -> Result<bool, Memory>

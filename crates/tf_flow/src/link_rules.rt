@@ -36,9 +36,21 @@ fn unknown_at(alloc: Global, place: Place<'_>) -> Result<Option<Name>, Memory>
 fn unknown_in(alloc: Global, flow: &Flow) -> Result<Option<Name>, Memory>
     ensures { IfOk result (λ name. name ≡ rule.unknown_at (at_flow (level flow.now))) }
 {
-    let names = member_names(alloc, flow.items.items())?;
+    let links = flow.links.items();
+    if links.is_empty() {
+        return Ok(None);
+    }
+    stray_among(alloc, flow.items.items(), links)
+}
+
+/// The first end of the links that names none of the items.
+fn stray_among(alloc: Global, items: &[Item], links: &[Link]) -> Result<Option<Name>, Memory>
+    ensures { IfOk result (λ name. name
+        ≡ first_some (rule.stray_end (rule.member_names (members items.now))) links.now) }
+{
+    let names = member_names(alloc, items)?;
     let set = set_of(alloc, &names)?;
-    Ok(first_stray(&set, flow.links.items()))
+    Ok(first_stray(&set, links))
 }
 
 fn first_stray(names: &IndexSet<Name>, links: &[Link]) -> Option<Name>
@@ -175,6 +187,9 @@ fn decides_flow(alloc: Global, items: &[Item], links: &[Link]) -> Result<bool, M
     ensures { IfOk result (λ decides. decides ≡ list_any
         (rule.decides_flow (rule.nested_names (members items.now))) links.now) }
 {
+    if links.is_empty() {
+        return Ok(false);
+    }
     let names = nested_names(alloc, items)?;
     let nested = set_of(alloc, &names)?;
     Ok(any_decides(&nested, links))

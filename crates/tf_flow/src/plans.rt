@@ -235,7 +235,7 @@ fn atom_index(alloc: Global, order: &[Place<'_>]) -> Result<IndexSet<Name>, Memo
 fn atom_names(alloc: Global, order: &[Place<'_>]) -> Result<Vec<Name>, Memory>
     ensures { IfOk result (λ names. names.items ≡ atom_names (shown_places order.now)) }
 {
-    let mut names = Vec::new(alloc);
+    let mut names = Vec::with_capacity(alloc, order.len())?;
     for place in order {
         if !place.is_flow() {
             names.push(place.name())?;
@@ -247,7 +247,7 @@ fn atom_names(alloc: Global, order: &[Place<'_>]) -> Result<Vec<Name>, Memory>
 fn retry_marks(alloc: Global, order: &[Place<'_>]) -> Result<Vec<bool>, Memory>
     ensures { IfOk result (λ marks. marks.items ≡ retry_marks (shown_places order.now)) }
 {
-    let mut marks = Vec::new(alloc);
+    let mut marks = Vec::with_capacity(alloc, order.len())?;
     for place in order {
         if !place.is_flow() {
             marks.push(place.is_retry())?;

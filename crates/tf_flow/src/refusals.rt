@@ -5,13 +5,13 @@ ghost use Rattle.tf_flow.specs.Rules as refusal;
 ghost use Rattle.std.specs.Option.{option_or};
 ghost use Rattle.tf_flow.specs.Shown.{shown, shown_places};
 
-use crate::atom_rules::{first_bad_atom, has_symbol_twice};
+use crate::atom_rules::first_bad_atom;
 use crate::atoms::Bind;
 use crate::faults::PlanFault;
 use crate::limits::{atom_count, first_limit};
 use crate::link_rules::{first_bad_link, first_unknown};
 use crate::outline::Place;
-use crate::repeats::indexed;
+use crate::repeats::{has_name_twice, indexed};
 use std::alloc::Global;
 use tf_values::{Memory, Name};
 
@@ -84,7 +84,7 @@ fn bad_atom(
 ) -> Result<Option<PlanFault>, Memory>
     ensures { IfOk result (λ fault. fault ≡ refusal.bad_atom root store.now (shown_places order.now)) }
 {
-    if has_symbol_twice(alloc, store)? {
+    if has_name_twice(alloc, store)? {
         return Ok(Some(PlanFault::BadAtom(root)));
     }
     match first_bad_atom(alloc, order)? {

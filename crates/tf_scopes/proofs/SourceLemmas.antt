@@ -29,6 +29,10 @@ same_turn (x ∷ xs) (y ∷ ys) = ap2 (λ (a b : Bool). a && b) (turn_eq x y) (s
 
 -- ---- the place of a bind
 
+-- the first place of a symbol, looked for from the start
+pub position_from_start : (symbol : List ℕ) (binds : List Bind) → position_from (binds_symbol symbol) 0 binds ≡ place_bound binds symbol
+position_from_start symbol binds = sym (position_from-zero (binds_symbol symbol) binds)
+
 -- what the place of the first bind of a symbol tells, where places are counted from i on
 pub record BoundFrom (symbol : List ℕ) (binds : List Bind) (i j : ℕ) : Type 0 where
   pub place : ℕ

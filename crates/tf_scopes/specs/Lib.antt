@@ -5,3 +5,5 @@ pub mod Standing
 pub mod Given
 pub mod Symbols
 pub mod Scope
+pub mod Stored
+pub mod Order

@@ -4,6 +4,10 @@ use Rattle.tf_model.specs.Plan.{Outline}
 use Rattle.tf_model.specs.Scope.{is_earlier}
 use Rattle.tf_order.specs.Graph.{standing_of_plan}
 
+-- b is the atom y
+abbrev pub is_one : ℕ → ℕ → Bool
+is_one y b = nat_eq b y
+
 -- b is another atom than y
 abbrev pub is_other : ℕ → ℕ → Bool
 is_other y b = not (nat_eq b y)

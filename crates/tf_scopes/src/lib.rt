@@ -7,6 +7,8 @@ mod given;
 mod providers;
 mod scope;
 mod sources;
+mod standing;
+mod stored;
 mod symbols;
 
 pub use faults::ScopeFault;

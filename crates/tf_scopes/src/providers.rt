@@ -6,14 +6,18 @@ ghost use Rattle.tf_model.specs.History.{Snapshot, Shows};
 ghost use Rattle.tf_order.specs.Graph.{IsGraphOf};
 ghost use Rattle.tf_scopes.specs.Scope.{IsScopeIn};
 ghost use Rattle.tf_scopes.specs.Sources.{place_bound, source_of, sources_of};
+ghost use Rattle.tf_scopes.specs.Order.{HasPlaces, IsOrderOf};
+ghost use Rattle.tf_scopes.specs.Stored.{IsStoreOf};
 ghost use Rattle.tf_scopes.specs.Symbols.{Tells};
 ghost use Rattle.tf_scopes.specs.Providers.{IsOf, IsMissing};
 ghost use Rattle.tf_scopes.specs.Found.{shown_in};
 
 use crate::faults::ScopeFault;
 use crate::found::{Found, found_in};
-use crate::scope::{Scope, find_givers, front_of};
+use crate::scope::{Scope, find_givers};
 use crate::sources::{Source, Sources};
+use crate::standing::StandingOrder;
+use crate::stored::Stored;
 use crate::symbols::Symbols;
 use std::alloc::Global;
 use std::marker::Model;
@@ -63,13 +67,12 @@ impl Providers {
         found_in(plan, views, atom, symbol, source)
     }
 
-    /// The table of no atom.
-    fn new(alloc: Global) -> Providers
-        ensures { result ≡ [] }
+    /// The table of no atom, with room for so many.
+    fn with_room(alloc: Global, atoms: u16) -> Result<Providers, Memory>
+        ensures { IfOk result (λ providers. providers ≡ []) }
     {
-        Providers {
-            rows: Vec::new(alloc),
-        }
+        let rows = Vec::with_capacity(alloc, atoms as usize)?;
+        Ok(Providers { rows })
     }
 
     /// Adds the sources of one atom more.
@@ -92,9 +95,11 @@ pub fn find_providers(alloc: Global, plan: &Plan, graph: &Graph) -> Result<Provi
     ensures missing { IfErr result (IsMissing (missing_symbol (outline_of plan.now))) }
 {
     let symbols = Symbols::make(alloc, plan, graph)?;
-    let mut providers = Providers::new(alloc);
+    let stored = Stored::make(alloc, plan.store().items())?;
+    let standing = StandingOrder::make(alloc, graph)?;
+    let mut providers = Providers::with_room(alloc, plan.atoms())?;
     for atom in 0..plan.atoms() {
-        let row = find_row(alloc, plan, graph, &symbols, atom)?;
+        let row = find_row(alloc, plan, graph, &symbols, &stored, &standing, atom)?;
         providers.push(row)?;
     }
     Ok(providers)
@@ -107,10 +112,15 @@ fn find_row(
     plan: &Plan,
     graph: &Graph,
     symbols: &Symbols,
+    stored: &Stored,
+    standing: &StandingOrder<'_>,
     atom: u16,
 ) -> Result<Sources, ScopeFault>
     requires graph { IsGraphOf graph.now plan.now }
     requires symbols { Tells symbols.now (outline_of plan.now) }
+    requires stored { IsStoreOf stored.now plan.now }
+    requires places { HasPlaces standing.now }
+    requires standing { IsOrderOf standing.now plan.now }
     requires atom { atom < count (outline_of plan.now) }
     ensures found { IfOk result (λ sources. sources ≡ sources_of (outline_of plan.now) atom) }
     ensures complete { OnOk result (missing_of (outline_of plan.now) atom ≡ None) }
@@ -119,7 +129,8 @@ fn find_row(
     let scope = Scope {
         graph,
         symbols,
-        front: front_of(graph, atom),
+        stored,
+        front: standing.front(atom),
         atom,
     };
     find_sources(alloc, plan, &scope)
@@ -134,7 +145,7 @@ fn find_sources(alloc: Global, plan: &Plan, scope: &Scope<'_>) -> Result<Sources
     ensures missing { IfErr result (IsMissing (missing_of (outline_of plan.now) scope.now.atom)) }
 {
     let part = plan.part(scope.atom);
-    let mut sources = Sources::new(alloc);
+    let mut sources = Sources::with_room(alloc, part.args().len())?;
     for arg in part.args() {
         let source = find_source(alloc, plan, scope, &arg.symbol)?;
         if source.gives_nothing() {
@@ -162,7 +173,7 @@ fn find_source(
     if let Some(place) = place_bound(plan.part(scope.atom).injects(), symbol) {
         return Ok(Source::Injected(place));
     }
-    if let Some(place) = place_bound(plan.store().items(), symbol) {
+    if let Some(place) = scope.stored.place(symbol) {
         return Ok(Source::Stored(place));
     }
     let givers = find_givers(alloc, scope, symbol)?;

@@ -1,25 +1,25 @@
-ghost use Rattle.std.specs.Prelude.{◌≡◌, ◌≤◌, IfOk, length, take, take_while, slice_get};
+ghost use Rattle.std.specs.Prelude.{◌≡◌, IfOk, slice_get};
 ghost use Rattle.tf_flow.specs.Plan.{PlanValue};
 ghost use Rattle.tf_model.specs.Plan.{outline_of};
-ghost use Rattle.tf_order.specs.Graph.{IsGraphOf, standing_of_plan};
 ghost use Rattle.tf_scopes.specs.Scope.{IsScopeIn, earlier_in};
 ghost use Rattle.tf_scopes.specs.Sources.{givers};
-ghost use Rattle.tf_scopes.specs.Standing.{is_other};
 
 use crate::sources::Givers;
+use crate::stored::Stored;
 use crate::symbols::Symbols;
 use std::alloc::Global;
 use tf_order::Graph;
 use tf_values::{Memory, Name};
 
-/// From where the scope of an atom is read: the graph, where those stand that list a symbol, and the atoms
-/// that stand before the atom. The atoms of an item stand together in the standing order of all atoms, so
-/// this order, read backwards from the atom, goes through its own flow first and then through those around
-/// it.
+/// From where the scope of an atom is read: the graph, where those stand that list a symbol, where the
+/// store has a symbol's value, and the atoms that stand before the atom. The atoms of an item stand together
+/// in the standing order of all atoms, so this order, read backwards from the atom, goes through its own flow
+/// first and then through those around it.
 #[derive(Clone, Copy)]
 pub struct Scope<'a> {
     pub graph: &'a Graph,
     pub symbols: &'a Symbols,
+    pub stored: &'a Stored,
     pub front: &'a [u16],
     pub atom: u16,
 }
@@ -52,26 +52,4 @@ fn member_at(scope: &Scope<'_>, place: usize) -> Option<u16>
     } else {
         None
     }
-}
-
-/// The atoms that stand before an atom.
-pub fn front_of(graph: &Graph, atom: u16) -> &[u16]
-    ensures { (plan : PlanValue) → IsGraphOf graph.now plan
-        → result.now ≡ take_while (is_other atom) (standing_of_plan (outline_of plan)) }
-{
-    let standing = graph.standing();
-    &standing[..place_of(standing, atom)]
-}
-
-/// How many numbers stand before this one; all where it isn't there.
-fn place_of(numbers: &[u16], number: u16) -> usize
-    ensures within { result ≤ length numbers.now }
-    ensures before { take result numbers.now ≡ take_while (is_other number) numbers.now }
-{
-    for (place, other) in numbers.iter().enumerate() {
-        if *other == number {
-            return place;
-        }
-    }
-    numbers.len()
 }

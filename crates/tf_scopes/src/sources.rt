@@ -1,4 +1,4 @@
-ghost use Rattle.std.specs.Prelude.{◌≡◌, ◌++◌, ◌∷◌, [], OnOk};
+ghost use Rattle.std.specs.Prelude.{◌≡◌, ◌++◌, ◌∷◌, [], IfOk, OnOk};
 ghost use Rattle.tf_scopes.specs.Sources.{gives_nothing};
 
 use std::alloc::Global;
@@ -74,13 +74,12 @@ impl Model for Sources {
 }
 
 impl Sources {
-    /// No source yet.
-    pub fn new(alloc: Global) -> Sources
-        ensures { result ≡ [] }
+    /// No source yet, with room for so many.
+    pub fn with_room(alloc: Global, count: usize) -> Result<Sources, Memory>
+        ensures { IfOk result (λ sources. sources ≡ []) }
     {
-        Sources {
-            items: Vec::new(alloc),
-        }
+        let items = Vec::with_capacity(alloc, count)?;
+        Ok(Sources { items })
     }
 
     /// Adds a source at the end.

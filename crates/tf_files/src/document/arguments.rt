@@ -1,4 +1,4 @@
-ghost use Rattle.std.specs.Prelude.{◌≡◌, ◌++◌, IfOk, OnOk, List, ℕ, not, map, filter, unwrap_or};
+ghost use Rattle.std.specs.Prelude.{◌≡◌, ◌++◌, [], IfOk, OnOk, List, ℕ, not, map, filter, unwrap_or};
 ghost use Rattle.std.specs.List.{list_any};
 ghost use Rattle.indexmap.specs.IndexMap.{get as found_in};
 ghost use Rattle.indexmap.specs.IndexSet.{contains as has};
@@ -22,6 +22,9 @@ pub fn arguments(
 {
     let mut args = named_arguments(alloc, required, rebound)?;
     let injected = injected_arguments(alloc, &args, inject)?;
+    if args.is_empty() {
+        return Ok(injected);
+    }
     args.extend_from_slice(&injected)?;
     Ok(args)
 }
@@ -40,8 +43,32 @@ fn named_arguments(alloc: Global, required: &[Name], rebound: &[Arg]) -> Result<
 fn required_arguments(alloc: Global, required: &[Name], rebound: &[Arg]) -> Result<Vec<Arg>, Memory>
     ensures { IfOk result (λ args. args.items ≡ map (required_argument rebound.now) required.now) }
 {
+    if rebound.is_empty() {
+        return arguments_by_name(alloc, required);
+    }
+    arguments_bound(alloc, required, rebound)
+}
+
+/// An argument for each name, whose symbol is the name.
+fn arguments_by_name(alloc: Global, names: &[Name]) -> Result<Vec<Arg>, Memory>
+    ensures { IfOk result (λ args. args.items ≡ map (required_argument []) names.now) }
+{
+    let mut args = Vec::with_capacity(alloc, names.len())?;
+    for name in names {
+        args.push(Arg {
+            name: *name,
+            symbol: *name,
+        })?;
+    }
+    Ok(args)
+}
+
+/// An argument for each required name, whose symbol is the one that the name is bound to, if it is bound.
+fn arguments_bound(alloc: Global, required: &[Name], rebound: &[Arg]) -> Result<Vec<Arg>, Memory>
+    ensures { IfOk result (λ args. args.items ≡ map (required_argument rebound.now) required.now) }
+{
     let symbols = symbols_of(alloc, rebound)?;
-    let mut args = Vec::new(alloc);
+    let mut args = Vec::with_capacity(alloc, required.len())?;
     for name in required {
         let symbol = symbol_for(&symbols, name);
         args.push(Arg {
@@ -126,7 +153,7 @@ fn injected_outside(
     ensures { IfOk result (λ made. made.items ≡ map injected_argument
         (filter (λ bind. not (has same_name spoken.now bind.symbol)) inject.now)) }
 {
-    let mut made = Vec::new(alloc);
+    let mut made = Vec::with_capacity(alloc, inject.len())?;
     for bind in inject {
         if !spoken.contains(&bind.symbol) {
             made.push(Arg {

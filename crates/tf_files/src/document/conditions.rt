@@ -2,6 +2,7 @@ ghost use Rattle.std.specs.Prelude.{◌≡◌, suc, map, codes, Ok, IfOk, IfErr}
 ghost use Rattle.tf_flow.specs.Outline.{condition_of};
 ghost use Rattle.tf_files.specs.FlowFile.{integer_form as integer_spelled, same_form as same_spelled, below_form as below_spelled, above_form as above_spelled, comparison_form as comparison_spelled, tests_by, all_by, any_by, not_by, row_by, test_table as table_spelled, test_within as test_spelled, test_form as whole_test_spelled};
 ghost use Rattle.tf_files.specs.document.Reading.{RefusesWith, each, array_of, required as required_there, name_form as name_spelled, value_form as value_spelled};
+ghost use Rattle.tf_files.specs.document.Places.{place_of};
 ghost use Rattle.toml.specs.View.{view, items_view, table_view};
 
 use crate::document::faults::FileFault;
@@ -16,9 +17,9 @@ use toml::{Table, Value};
 /// A test: `WrongKind` where a value is no table or of another kind than its key's, `UnknownKey` for a
 /// key that such a test hasn't, and `Plan` for the seventeenth test in one another.
 pub fn test_form(alloc: Global, field: &Field<'_>) -> Result<Test, FileFault>
-    ensures ok { IfOk result (λ test. whole_test_spelled field.now.path (view field.now.value.now)
+    ensures ok { IfOk result (λ test. whole_test_spelled (place_of field.now) (view field.now.value.now)
         ≡ Ok (condition_of test)) }
-    ensures refused { IfErr result (RefusesWith (whole_test_spelled field.now.path (view field.now.value.now))) }
+    ensures refused { IfErr result (RefusesWith (whole_test_spelled (place_of field.now) (view field.now.value.now))) }
 {
     test_within(alloc, 16, field)
 }
@@ -26,12 +27,13 @@ pub fn test_form(alloc: Global, field: &Field<'_>) -> Result<Test, FileFault>
 /// A test in which one less than `left` may stand in one another.
 #[cycle(conditions)]
 fn test_within(alloc: Global, left: u8, field: &Field<'_>) -> Result<Test, FileFault>
-    ensures ok { IfOk result (λ test. test_spelled left field.now.path (view field.now.value.now)
+    ensures ok { IfOk result (λ test. test_spelled left (place_of field.now) (view field.now.value.now)
         ≡ Ok (condition_of test)) }
-    ensures refused { IfErr result (RefusesWith (test_spelled left field.now.path (view field.now.value.now))) }
+    ensures refused { IfErr result (RefusesWith (test_spelled left (place_of field.now) (view field.now.value.now))) }
 {
     let table = field.table(alloc)?;
-    test_table(alloc, left, &field.path, table)
+    let path = field.path(alloc)?;
+    test_table(alloc, left, &path, table)
 }
 
 /// The test of a table. Where none may stand, it is refused before its keys are looked at.
@@ -129,13 +131,14 @@ fn tests_at(
 /// The tests of an array.
 #[cycle(conditions)]
 fn tests_form(alloc: Global, left: u8, field: &Field<'_>) -> Result<Vec<Test>, FileFault>
-    ensures ok { IfOk result (λ tests. array_of (test_spelled left) field.now.path (view field.now.value.now)
+    ensures ok { IfOk result (λ tests. array_of (test_spelled left) (place_of field.now) (view field.now.value.now)
         ≡ Ok (map condition_of tests.items)) }
-    ensures refused { IfErr result (RefusesWith (array_of (test_spelled left) field.now.path
+    ensures refused { IfErr result (RefusesWith (array_of (test_spelled left) (place_of field.now)
         (view field.now.value.now))) }
 {
     let items = field.items(alloc)?;
-    each_test(alloc, left, &field.path, items)
+    let path = field.path(alloc)?;
+    each_test(alloc, left, &path, items)
 }
 
 /// Each test of an array.
@@ -145,9 +148,9 @@ fn each_test(alloc: Global, left: u8, path: &Path, items: &[Value]) -> Result<Ve
         ≡ Ok (map condition_of tests.items)) }
     ensures refused { IfErr result (RefusesWith (each (test_spelled left) path.now 0 (items_view items.now))) }
 {
-    let mut tests = Vec::new(alloc);
+    let mut tests = Vec::with_capacity(alloc, items.len())?;
     for (number, value) in items.iter().enumerate() {
-        let field = item_at(alloc, path, number, value)?;
+        let field = item_at(path, number, value);
         let test = test_within(alloc, left, &field)?;
         tests.push(test)?;
     }
@@ -225,7 +228,7 @@ fn wanted_at(alloc: Global, path: &Path, table: &Table) -> Result<Val, FileFault
         (table_view table.now) value_spelled)) }
 {
     let field = required(alloc, path, "is", table)?;
-    value_form(alloc, &field.path, field.value)
+    value_form(alloc, &field)
 }
 
 fn integer_at(alloc: Global, path: &Path, key: &str, table: &Table) -> Result<i64, FileFault>
@@ -240,11 +243,11 @@ fn integer_at(alloc: Global, path: &Path, key: &str, table: &Table) -> Result<i6
 
 /// An integer, or `WrongKind`.
 fn integer_form(alloc: Global, field: &Field<'_>) -> Result<i64, FileFault>
-    ensures ok { IfOk result (λ number. integer_spelled field.now.path (view field.now.value.now) ≡ Ok number) }
-    ensures refused { IfErr result (RefusesWith (integer_spelled field.now.path (view field.now.value.now))) }
+    ensures ok { IfOk result (λ number. integer_spelled (place_of field.now) (view field.now.value.now) ≡ Ok number) }
+    ensures refused { IfErr result (RefusesWith (integer_spelled (place_of field.now) (view field.now.value.now))) }
 {
     match field.value.as_integer() {
         Some(number) => Ok(number),
-        None => Err(FileFault::WrongKind(field.path.copy(alloc)?)),
+        None => Err(FileFault::WrongKind(field.path(alloc)?)),
     }
 }

@@ -3,6 +3,7 @@ ghost use Rattle.tf_flow.specs.Outline.{decision_of};
 ghost use Rattle.tf_flow.specs.declared.deciders.Depth.TheVariants as depths;
 ghost use Rattle.tf_files.specs.FlowFile.{depth_named as depth_of, depth_form as depth_spelled, decider_form as decider_spelled, decider_of as decider_there};
 ghost use Rattle.tf_files.specs.document.Reading.{RefusesWith, optional as optional_there};
+ghost use Rattle.tf_files.specs.document.Places.{place_of};
 ghost use Rattle.toml.specs.View.{view, table_view};
 
 use crate::document::conditions::test_form;
@@ -18,7 +19,7 @@ pub fn decider_of(alloc: Global, path: &Path, table: &Table) -> Result<Option<De
     ensures ok { IfOk result (λ decider. decider_there path.now (table_view table.now) ≡ Ok (decision_of decider)) }
     ensures refused { IfErr result (RefusesWith (decider_there path.now (table_view table.now))) }
 {
-    match optional(alloc, path, "decider", table)? {
+    match optional(path, "decider", table) {
         Some(field) => decider_form(alloc, path, table, &field),
         None => Ok(None),
     }
@@ -31,9 +32,9 @@ fn decider_form(
     table: &Table,
     field: &Field<'_>,
 ) -> Result<Option<Decider>, FileFault>
-    ensures ok { IfOk result (λ decider. decider_spelled path.now (table_view table.now) field.now.path
+    ensures ok { IfOk result (λ decider. decider_spelled path.now (table_view table.now) (place_of field.now)
         (view field.now.value.now) ≡ Ok (decision_of decider)) }
-    ensures refused { IfErr result (RefusesWith (decider_spelled path.now (table_view table.now) field.now.path
+    ensures refused { IfErr result (RefusesWith (decider_spelled path.now (table_view table.now) (place_of field.now)
         (view field.now.value.now))) }
 {
     let test = test_form(alloc, field)?;
@@ -47,7 +48,7 @@ fn depth_at(alloc: Global, path: &Path, table: &Table) -> Result<Depth, FileFaul
     ensures refused { IfErr result (RefusesWith (optional_there path.now (codes "depth")
         (table_view table.now) depths.All depth_spelled)) }
 {
-    match optional(alloc, path, "depth", table)? {
+    match optional(path, "depth", table) {
         Some(field) => depth_form(alloc, &field),
         None => Ok(Depth::All),
     }
@@ -55,22 +56,22 @@ fn depth_at(alloc: Global, path: &Path, table: &Table) -> Result<Depth, FileFaul
 
 /// A depth: `WrongKind` where the value is no string, `BadChoice` where it is no depth.
 fn depth_form(alloc: Global, field: &Field<'_>) -> Result<Depth, FileFault>
-    ensures ok { IfOk result (λ depth. depth_spelled field.now.path (view field.now.value.now) ≡ Ok depth) }
-    ensures refused { IfErr result (RefusesWith (depth_spelled field.now.path (view field.now.value.now))) }
+    ensures ok { IfOk result (λ depth. depth_spelled (place_of field.now) (view field.now.value.now) ≡ Ok depth) }
+    ensures refused { IfErr result (RefusesWith (depth_spelled (place_of field.now) (view field.now.value.now))) }
 {
     let word = field.word(alloc)?;
-    depth_named(alloc, &field.path, word)
+    depth_named(alloc, field, word)
 }
 
-fn depth_named(alloc: Global, path: &Path, word: &str) -> Result<Depth, FileFault>
-    ensures ok { IfOk result (λ depth. depth_of path.now word.now ≡ Ok depth) }
-    ensures refused { IfErr result (RefusesWith (depth_of path.now word.now)) }
+fn depth_named(alloc: Global, field: &Field<'_>, word: &str) -> Result<Depth, FileFault>
+    ensures ok { IfOk result (λ depth. depth_of (place_of field.now) word.now ≡ Ok depth) }
+    ensures refused { IfErr result (RefusesWith (depth_of (place_of field.now) word.now)) }
 {
     match word {
         "ALL" => Ok(Depth::All),
         "FLOW" => Ok(Depth::Flow),
         "NEIGHBORS" => Ok(Depth::Neighbors),
         "ATOM" => Ok(Depth::Atom),
-        _ => Err(FileFault::BadChoice(path.copy(alloc)?)),
+        _ => Err(FileFault::BadChoice(field.path(alloc)?)),
     }
 }

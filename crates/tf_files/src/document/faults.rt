@@ -1,7 +1,7 @@
 ghost use Rattle.std.specs.Prelude.{◌≡◌};
 
 use crate::document::paths::Path;
-use std::alloc::AllocFailed;
+use std::alloc::{AllocError, AllocFailed};
 use tf_flow::PlanFault;
 use tf_values::Memory;
 
@@ -48,6 +48,17 @@ impl From<Memory> for FileFault {
     ghost from_gives = { λ _ fault. fault ≡ OutOfMemory };
 
     fn from(_fault: Memory) -> FileFault {
+        FileFault::Memory
+    }
+}
+
+impl From<AllocError> for FileFault {
+    ghost use Rattle.std.specs.Prelude.{◌≡◌};
+    ghost use Rattle.tf_files.specs.declared.document.faults.FileFault.TheVariants.{Memory as OutOfMemory};
+
+    ghost from_gives = { λ _ fault. fault ≡ OutOfMemory };
+
+    fn from(_fault: AllocError) -> FileFault {
         FileFault::Memory
     }
 }

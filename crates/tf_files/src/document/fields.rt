@@ -2,6 +2,7 @@ ghost use Rattle.std.specs.Prelude.{◌≡◌, Some, Ok, IfOk, IfErr, IfSome, On
 ghost use Rattle.std.specs.Fmt.{decimal};
 ghost use Rattle.tf_flow.specs.Tree.{is_among};
 ghost use Rattle.tf_files.specs.document.Reading.{below, RefusesWith, known_only as read_known, unknown_key as first_unknown, required_at, of_kind, has_key as key_is_there, has_text as text_is_there, same_text as is_that_text};
+ghost use Rattle.tf_files.specs.document.Places.{place_of};
 ghost use Rattle.toml.specs.Data.{get_member, as_str, as_array, as_table};
 ghost use Rattle.toml.specs.View.{view, items_view, table_view};
 
@@ -12,61 +13,78 @@ use std::alloc::Global;
 use tf_values::Memory;
 use toml::{Table, Value};
 
-/// A value of a document with its path.
+/// A step into a table, by the bytes of a key, or into an array.
+#[derive(Clone, Copy)]
+pub enum Step<'a> {
+    Key(&'a [u8]),
+    Item(usize),
+}
+
+/// A value of a document, which stands one step below a path. Its own path is made only where it is asked for.
 #[derive(Drop)]
 pub struct Field<'a> {
-    pub path: Path,
+    pub above: &'a Path,
+    pub step: Step<'a>,
     pub value: &'a Value,
 }
 
 impl<'a> Field<'a> {
+    /// The path of the value.
+    pub fn path(&self, alloc: Global) -> Result<Path, Memory>
+        ensures { IfOk result (λ path. path ≡ place_of self.now) }
+    {
+        match self.step {
+            Step::Key(key) => self.above.below(alloc, key),
+            Step::Item(number) => self
+                .above
+                .below(alloc, Buffer::new().format(number).as_bytes()),
+        }
+    }
+
     /// The string that the value is, or `WrongKind`.
     pub fn word(&self, alloc: Global) -> Result<&'a str, FileFault>
         ensures ok { IfOk result (λ word. as_str (view self.now.value.now) ≡ Some word.now) }
-        ensures refused { IfErr result (RefusesWith (of_kind self.now.path (as_str (view self.now.value.now)) Ok)) }
+        ensures refused { IfErr result (RefusesWith (of_kind (place_of self.now) (as_str (view self.now.value.now)) Ok)) }
     {
         match self.value.as_str() {
             Some(word) => Ok(word),
-            None => Err(FileFault::WrongKind(self.path.copy(alloc)?)),
+            None => Err(FileFault::WrongKind(self.path(alloc)?)),
         }
     }
 
     /// The items of the array that the value is, or `WrongKind`.
     pub fn items(&self, alloc: Global) -> Result<&'a [Value], FileFault>
         ensures ok { IfOk result (λ items. as_array (view self.now.value.now) ≡ Some (items_view items.now)) }
-        ensures refused { IfErr result (RefusesWith (of_kind self.now.path (as_array (view self.now.value.now)) Ok)) }
+        ensures refused { IfErr result (RefusesWith (of_kind (place_of self.now) (as_array (view self.now.value.now)) Ok)) }
     {
         match self.value.as_array() {
             Some(items) => Ok(items),
-            None => Err(FileFault::WrongKind(self.path.copy(alloc)?)),
+            None => Err(FileFault::WrongKind(self.path(alloc)?)),
         }
     }
 
     /// The table that the value is, or `WrongKind`.
     pub fn table(&self, alloc: Global) -> Result<&'a Table, FileFault>
         ensures ok { IfOk result (λ table. as_table (view self.now.value.now) ≡ Some (table_view table.now)) }
-        ensures refused { IfErr result (RefusesWith (of_kind self.now.path (as_table (view self.now.value.now)) Ok)) }
+        ensures refused { IfErr result (RefusesWith (of_kind (place_of self.now) (as_table (view self.now.value.now)) Ok)) }
     {
         match self.value.as_table() {
             Some(table) => Ok(table),
-            None => Err(FileFault::WrongKind(self.path.copy(alloc)?)),
+            None => Err(FileFault::WrongKind(self.path(alloc)?)),
         }
     }
 }
 
 /// The item of that number of the array under the path.
-pub fn item_at<'a>(
-    alloc: Global,
-    path: &Path,
-    number: usize,
-    value: &'a Value,
-) -> Result<Field<'a>, Memory>
-    ensures place { IfOk result (λ field. field.path ≡ below path.now (decimal number)) }
-    ensures value { IfOk result (λ field. field.value.now ≡ value.now) }
+pub fn item_at<'a>(path: &'a Path, number: usize, value: &'a Value) -> Field<'a>
+    ensures place { place_of result ≡ below path.now (decimal number) }
+    ensures value { result.value.now ≡ value.now }
 {
-    let mut buffer = Buffer::new();
-    let path = path.below(alloc, buffer.format(number).as_bytes())?;
-    Ok(Field { path, value })
+    Field {
+        above: path,
+        step: Step::Item(number),
+        value,
+    }
 }
 
 /// Whether the table has the key.
@@ -148,38 +166,36 @@ pub fn is_known(known: &[&str], word: &str) -> bool
 /// The value at a key of the table under the path, which must be there.
 pub fn required<'a>(
     alloc: Global,
-    path: &Path,
-    key: &str,
+    path: &'a Path,
+    key: &'a str,
     table: &'a Table,
 ) -> Result<Field<'a>, FileFault>
-    ensures place { IfOk result (λ field. field.path ≡ below path.now key.now) }
+    ensures place { IfOk result (λ field. place_of field ≡ below path.now key.now) }
     ensures found { IfOk result (λ field. get_member key.now (table_view table.now) ≡ Some (view field.value.now)) }
     ensures refused { IfErr result (RefusesWith (required_at (below path.now key.now) (λ place found. Ok found)
         (get_member key.now (table_view table.now)))) }
 {
-    let path = path.below(alloc, key.as_bytes())?;
     match value_at(table, key) {
-        Some(value) => Ok(Field { path, value }),
-        None => Err(FileFault::MissingKey(path)),
+        Some(value) => Ok(Field {
+            above: path,
+            step: Step::Key(key.as_bytes()),
+            value,
+        }),
+        None => Err(FileFault::MissingKey(path.below(alloc, key.as_bytes())?)),
     }
 }
 
 /// The value at a key of the table under the path, if it is there.
-pub fn optional<'a>(
-    alloc: Global,
-    path: &Path,
-    key: &str,
-    table: &'a Table,
-) -> Result<Option<Field<'a>>, Memory>
-    ensures place { IfOk result (λ found. IfSome found (λ field. field.path ≡ below path.now key.now)) }
-    ensures found { IfOk result (λ found. option_map (λ field. view field.value.now) found
-        ≡ get_member key.now (table_view table.now)) }
+pub fn optional<'a>(path: &'a Path, key: &'a str, table: &'a Table) -> Option<Field<'a>>
+    ensures place { IfSome result (λ field. place_of field ≡ below path.now key.now) }
+    ensures found { option_map (λ field. view field.value.now) result ≡ get_member key.now (table_view table.now) }
 {
     match value_at(table, key) {
-        Some(value) => {
-            let path = path.below(alloc, key.as_bytes())?;
-            Ok(Some(Field { path, value }))
-        }
-        None => Ok(None),
+        Some(value) => Some(Field {
+            above: path,
+            step: Step::Key(key.as_bytes()),
+            value,
+        }),
+        None => None,
     }
 }

@@ -40,7 +40,7 @@ impl Path {
     pub fn below(&self, alloc: Global, step: &[u8]) -> Result<Path, Memory>
         ensures { IfOk result (λ path. path ≡ below self.now step.now) }
     {
-        let mut bytes = Vec::new(alloc);
+        let mut bytes = Vec::with_capacity(alloc, self.bytes.len() + step.len() + 1)?;
         bytes.extend_from_slice(&self.bytes)?;
         if !self.bytes.is_empty() {
             bytes.push(b'.')?;
@@ -59,14 +59,5 @@ impl Path {
         let mut step = Vec::new(alloc);
         tf_values::quote(key.as_bytes(), &mut step)?;
         self.below(alloc, &step)
-    }
-
-    /// An equal path.
-    pub(crate) fn copy(&self, alloc: Global) -> Result<Path, Memory>
-        ensures { IfOk result (λ path. path ≡ self.now) }
-    {
-        Ok(Path {
-            bytes: Vec::from_slice(alloc, &self.bytes)?,
-        })
     }
 }

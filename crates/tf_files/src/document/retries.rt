@@ -1,5 +1,6 @@
 ghost use Rattle.std.specs.Prelude.{◌≡◌, false, codes, map, Ok, IfOk, IfErr};
 ghost use Rattle.tf_files.specs.document.Reading.{RefusesWith, required as required_there, optional as optional_there, name_form as name_spelled};
+ghost use Rattle.tf_files.specs.document.Places.{place_of};
 ghost use Rattle.tf_files.specs.document.Tasks.{retry_form as retry_spelled, retry_table as retry_of, retry_keys as keys_of, has_kind as is_kind, retry_kind_form as kind_spelled, retry_kind_named as kind_of, times_of as times_spelled, for_each_of as for_each_spelled, parameterized_of as parameterized_spelled, revert_all_of as revert_all_spelled, attempts_form as attempts_spelled, counted as counted_spelled, values_form as values_spelled, truth_form as truth_spelled};
 ghost use Rattle.toml.specs.View.{view, table_view};
 
@@ -16,11 +17,12 @@ use toml::Table;
 /// A retry controller: `WrongKind` where the value is no table, and else the first reason why the table
 /// spells none.
 pub fn retry_form(alloc: Global, field: &Field<'_>) -> Result<Retry, FileFault>
-    ensures ok { IfOk result (λ retry. retry_spelled field.now.path (view field.now.value.now) ≡ Ok retry) }
-    ensures refused { IfErr result (RefusesWith (retry_spelled field.now.path (view field.now.value.now))) }
+    ensures ok { IfOk result (λ retry. retry_spelled (place_of field.now) (view field.now.value.now) ≡ Ok retry) }
+    ensures refused { IfErr result (RefusesWith (retry_spelled (place_of field.now) (view field.now.value.now))) }
 {
     let table = field.table(alloc)?;
-    retry_table(alloc, &field.path, table)
+    let path = field.path(alloc)?;
+    retry_table(alloc, &path, table)
 }
 
 /// The retry controller that the table under the path spells.
@@ -118,24 +120,24 @@ fn kind_form(
     table: &Table,
     field: &Field<'_>,
 ) -> Result<RetryKind, FileFault>
-    ensures ok { IfOk result (λ kind. kind_spelled path.now (table_view table.now) field.now.path
+    ensures ok { IfOk result (λ kind. kind_spelled path.now (table_view table.now) (place_of field.now)
         (view field.now.value.now) ≡ Ok kind) }
-    ensures refused { IfErr result (RefusesWith (kind_spelled path.now (table_view table.now) field.now.path
+    ensures refused { IfErr result (RefusesWith (kind_spelled path.now (table_view table.now) (place_of field.now)
         (view field.now.value.now))) }
 {
     let word = field.word(alloc)?;
-    kind_named(alloc, path, table, &field.path, word)
+    kind_named(alloc, path, table, field, word)
 }
 
 fn kind_named(
     alloc: Global,
     path: &Path,
     table: &Table,
-    place: &Path,
+    field: &Field<'_>,
     word: &str,
 ) -> Result<RetryKind, FileFault>
-    ensures ok { IfOk result (λ kind. kind_of path.now (table_view table.now) place.now word.now ≡ Ok kind) }
-    ensures refused { IfErr result (RefusesWith (kind_of path.now (table_view table.now) place.now word.now)) }
+    ensures ok { IfOk result (λ kind. kind_of path.now (table_view table.now) (place_of field.now) word.now ≡ Ok kind) }
+    ensures refused { IfErr result (RefusesWith (kind_of path.now (table_view table.now) (place_of field.now) word.now)) }
 {
     match word {
         "always_revert" => Ok(RetryKind::AlwaysRevert),
@@ -143,7 +145,7 @@ fn kind_named(
         "times" => times(alloc, path, table),
         "for_each" => for_each(alloc, path, table),
         "parameterized_for_each" => parameterized(alloc, path, table),
-        _ => Err(FileFault::BadChoice(place.copy(alloc)?)),
+        _ => Err(FileFault::BadChoice(field.path(alloc)?)),
     }
 }
 
@@ -200,7 +202,7 @@ fn revert_all_at(alloc: Global, path: &Path, table: &Table) -> Result<bool, File
     ensures ok { IfOk result (λ all. revert_all_spelled path.now (table_view table.now) ≡ Ok all) }
     ensures refused { IfErr result (RefusesWith (revert_all_spelled path.now (table_view table.now))) }
 {
-    match optional(alloc, path, "revert_all", table)? {
+    match optional(path, "revert_all", table) {
         Some(field) => truth_form(alloc, &field),
         None => Ok(false),
     }
@@ -209,43 +211,43 @@ fn revert_all_at(alloc: Global, path: &Path, table: &Table) -> Result<bool, File
 /// A number of attempts: `WrongKind` where the value is no integer, `BadNumber` where it is negative or
 /// needs more than 16 bits.
 fn attempts_form(alloc: Global, field: &Field<'_>) -> Result<u16, FileFault>
-    ensures ok { IfOk result (λ attempts. attempts_spelled field.now.path (view field.now.value.now) ≡ Ok attempts) }
-    ensures refused { IfErr result (RefusesWith (attempts_spelled field.now.path (view field.now.value.now))) }
+    ensures ok { IfOk result (λ attempts. attempts_spelled (place_of field.now) (view field.now.value.now) ≡ Ok attempts) }
+    ensures refused { IfErr result (RefusesWith (attempts_spelled (place_of field.now) (view field.now.value.now))) }
 {
     match field.value.as_integer() {
-        Some(number) => counted(alloc, &field.path, number),
-        None => Err(FileFault::WrongKind(field.path.copy(alloc)?)),
+        Some(number) => counted(alloc, field, number),
+        None => Err(FileFault::WrongKind(field.path(alloc)?)),
     }
 }
 
-fn counted(alloc: Global, path: &Path, number: i64) -> Result<u16, FileFault>
-    ensures ok { IfOk result (λ attempts. counted_spelled path.now number ≡ Ok attempts) }
-    ensures refused { IfErr result (RefusesWith (counted_spelled path.now number)) }
+fn counted(alloc: Global, field: &Field<'_>, number: i64) -> Result<u16, FileFault>
+    ensures ok { IfOk result (λ attempts. counted_spelled (place_of field.now) number ≡ Ok attempts) }
+    ensures refused { IfErr result (RefusesWith (counted_spelled (place_of field.now) number)) }
 {
     if number < 0 || 65_535 < number {
-        return Err(FileFault::BadNumber(path.copy(alloc)?));
+        return Err(FileFault::BadNumber(field.path(alloc)?));
     }
     Ok(number as u16)
 }
 
 /// A list of values, or `BadValue`.
 fn values_form(alloc: Global, field: &Field<'_>) -> Result<Scalars, FileFault>
-    ensures ok { IfOk result (λ values. values_spelled field.now.path (view field.now.value.now) ≡ Ok values) }
-    ensures refused { IfErr result (RefusesWith (values_spelled field.now.path (view field.now.value.now))) }
+    ensures ok { IfOk result (λ values. values_spelled (place_of field.now) (view field.now.value.now) ≡ Ok values) }
+    ensures refused { IfErr result (RefusesWith (values_spelled (place_of field.now) (view field.now.value.now))) }
 {
     match value_of(alloc, field.value)? {
         Some(Val::List(values)) => Ok(values),
-        _ => Err(FileFault::BadValue(field.path.copy(alloc)?)),
+        _ => Err(FileFault::BadValue(field.path(alloc)?)),
     }
 }
 
 /// A truth value, or `WrongKind`.
 fn truth_form(alloc: Global, field: &Field<'_>) -> Result<bool, FileFault>
-    ensures ok { IfOk result (λ truth. truth_spelled field.now.path (view field.now.value.now) ≡ Ok truth) }
-    ensures refused { IfErr result (RefusesWith (truth_spelled field.now.path (view field.now.value.now))) }
+    ensures ok { IfOk result (λ truth. truth_spelled (place_of field.now) (view field.now.value.now) ≡ Ok truth) }
+    ensures refused { IfErr result (RefusesWith (truth_spelled (place_of field.now) (view field.now.value.now))) }
 {
     match field.value.as_bool() {
         Some(truth) => Ok(truth),
-        None => Err(FileFault::WrongKind(field.path.copy(alloc)?)),
+        None => Err(FileFault::WrongKind(field.path(alloc)?)),
     }
 }

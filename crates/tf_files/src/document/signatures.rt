@@ -1,5 +1,6 @@
 ghost use Rattle.std.specs.Prelude.{◌≡◌, Ok, IfOk, IfErr, [], codes};
 ghost use Rattle.tf_files.specs.document.Reading.{RefusesWith, optional as optional_there, names_form as names_spelled, binds_form as binds_spelled};
+ghost use Rattle.tf_files.specs.document.Places.{place_of};
 ghost use Rattle.tf_files.specs.document.Tasks.{signature_form as signature_spelled, rebind_form as rebind_spelled, provides_form as provides_spelled};
 ghost use Rattle.tf_flow.specs.declared.atoms.Provides.TheVariants as provided;
 ghost use Rattle.toml.specs.View.{view, table_view};
@@ -47,7 +48,7 @@ fn requires_at(alloc: Global, path: &Path, table: &Table) -> Result<Vec<Name>, F
     ensures refused { IfErr result (RefusesWith (optional_there path.now (codes "requires")
         (table_view table.now) [] names_spelled)) }
 {
-    match optional(alloc, path, "requires", table)? {
+    match optional(path, "requires", table) {
         Some(field) => names_form(alloc, &field),
         None => Ok(Vec::new(alloc)),
     }
@@ -59,7 +60,7 @@ fn rebind_at(alloc: Global, path: &Path, table: &Table) -> Result<Vec<Arg>, File
     ensures refused { IfErr result (RefusesWith (optional_there path.now (codes "rebind")
         (table_view table.now) [] rebind_spelled)) }
 {
-    match optional(alloc, path, "rebind", table)? {
+    match optional(path, "rebind", table) {
         Some(field) => rebind_form(alloc, &field),
         None => Ok(Vec::new(alloc)),
     }
@@ -71,7 +72,7 @@ fn inject_at(alloc: Global, path: &Path, table: &Table) -> Result<Vec<Bind>, Fil
     ensures refused { IfErr result (RefusesWith (optional_there path.now (codes "inject")
         (table_view table.now) [] binds_spelled)) }
 {
-    match optional(alloc, path, "inject", table)? {
+    match optional(path, "inject", table) {
         Some(field) => binds_form(alloc, &field),
         None => Ok(Vec::new(alloc)),
     }
@@ -83,7 +84,7 @@ fn provides_at(alloc: Global, path: &Path, table: &Table) -> Result<Provides, Fi
     ensures refused { IfErr result (RefusesWith (optional_there path.now (codes "provides")
         (table_view table.now) provided.Nothing provides_spelled)) }
 {
-    match optional(alloc, path, "provides", table)? {
+    match optional(path, "provides", table) {
         Some(field) => provides_form(alloc, &field),
         None => Ok(Provides::Nothing),
     }
@@ -92,18 +93,18 @@ fn provides_at(alloc: Global, path: &Path, table: &Table) -> Result<Provides, Fi
 /// What an atom provides: `WrongKind` where the value is neither a string nor an array, `BadName`
 /// where a string is no name.
 fn provides_form(alloc: Global, field: &Field<'_>) -> Result<Provides, FileFault>
-    ensures ok { IfOk result (λ provides. provides_spelled field.now.path (view field.now.value.now) ≡ Ok provides) }
-    ensures refused { IfErr result (RefusesWith (provides_spelled field.now.path (view field.now.value.now))) }
+    ensures ok { IfOk result (λ provides. provides_spelled (place_of field.now) (view field.now.value.now) ≡ Ok provides) }
+    ensures refused { IfErr result (RefusesWith (provides_spelled (place_of field.now) (view field.now.value.now))) }
 {
     match field.value {
         Value::String(string) => {
-            let name = named(alloc, &field.path, string.as_str())?;
+            let name = named(alloc, field, string.as_str())?;
             Ok(Provides::Whole(name))
         }
         Value::Array(items) => {
-            let names = each_name(alloc, &field.path, items)?;
+            let names = each_name(alloc, field, items)?;
             Ok(Provides::Parts(Names::make(names)))
         }
-        _ => Err(FileFault::WrongKind(field.path.copy(alloc)?)),
+        _ => Err(FileFault::WrongKind(field.path(alloc)?)),
     }
 }

@@ -1,5 +1,6 @@
 ghost use Rattle.std.specs.Prelude.{◌≡◌, [], Ok, IfOk, IfErr, codes, pos};
 ghost use Rattle.tf_files.specs.document.Reading.{RefusesWith, required as required_there, optional as optional_there, name_form as name_spelled, texts_form as texts_spelled};
+ghost use Rattle.tf_files.specs.document.Places.{place_of};
 ghost use Rattle.tf_files.specs.document.Tasks.{task_form as task_spelled, task_kind_form as kind_spelled, kind_named as kind_of, priority_form as priority_spelled, ranked as ranked_spelled, undo_form as undo_spelled, undo_named as undo_of};
 ghost use Rattle.tf_flow.specs.declared.atoms.Undo.TheVariants as undone;
 ghost use Rattle.toml.specs.View.{view, table_view};
@@ -68,7 +69,7 @@ fn priority_at(alloc: Global, path: &Path, table: &Table) -> Result<i32, FileFau
     ensures refused { IfErr result (RefusesWith (optional_there path.now (codes "priority") (table_view table.now)
         (pos 0) priority_spelled)) }
 {
-    match optional(alloc, path, "priority", table)? {
+    match optional(path, "priority", table) {
         Some(field) => priority_form(alloc, &field),
         None => Ok(0),
     }
@@ -80,7 +81,7 @@ fn run_at(alloc: Global, path: &Path, table: &Table) -> Result<Vec<Text>, FileFa
     ensures refused { IfErr result (RefusesWith (optional_there path.now (codes "run")
         (table_view table.now) [] texts_spelled)) }
 {
-    match optional(alloc, path, "run", table)? {
+    match optional(path, "run", table) {
         Some(field) => texts_form(alloc, &field),
         None => Ok(Vec::new(alloc)),
     }
@@ -92,7 +93,7 @@ fn revert_at(alloc: Global, path: &Path, table: &Table) -> Result<Undo, FileFaul
     ensures refused { IfErr result (RefusesWith (optional_there path.now (codes "revert")
         (table_view table.now) undone.Pass undo_spelled)) }
 {
-    match optional(alloc, path, "revert", table)? {
+    match optional(path, "revert", table) {
         Some(field) => undo_form(alloc, &field),
         None => Ok(Undo::Pass),
     }
@@ -100,16 +101,16 @@ fn revert_at(alloc: Global, path: &Path, table: &Table) -> Result<Undo, FileFaul
 
 /// A kind of task: `WrongKind` where the value is no string, `BadChoice` where it is no kind.
 fn kind_form(alloc: Global, field: &Field<'_>) -> Result<TaskKind, FileFault>
-    ensures ok { IfOk result (λ kind. kind_spelled field.now.path (view field.now.value.now) ≡ Ok kind) }
-    ensures refused { IfErr result (RefusesWith (kind_spelled field.now.path (view field.now.value.now))) }
+    ensures ok { IfOk result (λ kind. kind_spelled (place_of field.now) (view field.now.value.now) ≡ Ok kind) }
+    ensures refused { IfErr result (RefusesWith (kind_spelled (place_of field.now) (view field.now.value.now))) }
 {
     let word = field.word(alloc)?;
-    kind_named(alloc, &field.path, word)
+    kind_named(alloc, field, word)
 }
 
-fn kind_named(alloc: Global, path: &Path, word: &str) -> Result<TaskKind, FileFault>
-    ensures ok { IfOk result (λ kind. kind_of path.now word.now ≡ Ok kind) }
-    ensures refused { IfErr result (RefusesWith (kind_of path.now word.now)) }
+fn kind_named(alloc: Global, field: &Field<'_>, word: &str) -> Result<TaskKind, FileFault>
+    ensures ok { IfOk result (λ kind. kind_of (place_of field.now) word.now ≡ Ok kind) }
+    ensures refused { IfErr result (RefusesWith (kind_of (place_of field.now) word.now)) }
 {
     match word {
         "echo" => Ok(TaskKind::Echo),
@@ -122,27 +123,27 @@ fn kind_named(alloc: Global, path: &Path, word: &str) -> Result<TaskKind, FileFa
         "fail_below" => Ok(TaskKind::FailBelow),
         "fail_unless" => Ok(TaskKind::FailUnless),
         "command" => Ok(TaskKind::Command),
-        _ => Err(FileFault::BadChoice(path.copy(alloc)?)),
+        _ => Err(FileFault::BadChoice(field.path(alloc)?)),
     }
 }
 
 /// A priority: `WrongKind` where the value is no integer, `BadNumber` where it needs more than 32 bits.
 fn priority_form(alloc: Global, field: &Field<'_>) -> Result<i32, FileFault>
-    ensures ok { IfOk result (λ priority. priority_spelled field.now.path (view field.now.value.now) ≡ Ok priority) }
-    ensures refused { IfErr result (RefusesWith (priority_spelled field.now.path (view field.now.value.now))) }
+    ensures ok { IfOk result (λ priority. priority_spelled (place_of field.now) (view field.now.value.now) ≡ Ok priority) }
+    ensures refused { IfErr result (RefusesWith (priority_spelled (place_of field.now) (view field.now.value.now))) }
 {
     match field.value.as_integer() {
-        Some(number) => ranked(alloc, &field.path, number),
-        None => Err(FileFault::WrongKind(field.path.copy(alloc)?)),
+        Some(number) => ranked(alloc, field, number),
+        None => Err(FileFault::WrongKind(field.path(alloc)?)),
     }
 }
 
-fn ranked(alloc: Global, path: &Path, number: i64) -> Result<i32, FileFault>
-    ensures ok { IfOk result (λ priority. ranked_spelled path.now number ≡ Ok priority) }
-    ensures refused { IfErr result (RefusesWith (ranked_spelled path.now number)) }
+fn ranked(alloc: Global, field: &Field<'_>, number: i64) -> Result<i32, FileFault>
+    ensures ok { IfOk result (λ priority. ranked_spelled (place_of field.now) number ≡ Ok priority) }
+    ensures refused { IfErr result (RefusesWith (ranked_spelled (place_of field.now) number)) }
 {
     if number < -2_147_483_648 || 2_147_483_647 < number {
-        return Err(FileFault::BadNumber(path.copy(alloc)?));
+        return Err(FileFault::BadNumber(field.path(alloc)?));
     }
     Ok(number as i32)
 }
@@ -150,26 +151,27 @@ fn ranked(alloc: Global, path: &Path, number: i64) -> Result<i32, FileFault>
 /// What reverts a task: `WrongKind` where the value is neither a string nor an array, `BadChoice` where
 /// it is another word, and for the words of a program what refuses the first that is no text.
 fn undo_form(alloc: Global, field: &Field<'_>) -> Result<Undo, FileFault>
-    ensures ok { IfOk result (λ undo. undo_spelled field.now.path (view field.now.value.now) ≡ Ok undo) }
-    ensures refused { IfErr result (RefusesWith (undo_spelled field.now.path (view field.now.value.now))) }
+    ensures ok { IfOk result (λ undo. undo_spelled (place_of field.now) (view field.now.value.now) ≡ Ok undo) }
+    ensures refused { IfErr result (RefusesWith (undo_spelled (place_of field.now) (view field.now.value.now))) }
 {
     match field.value {
-        Value::String(string) => undo_named(alloc, &field.path, string.as_str()),
+        Value::String(string) => undo_named(alloc, field, string.as_str()),
         Value::Array(items) => {
-            let words = each_text(alloc, &field.path, items)?;
+            let path = field.path(alloc)?;
+            let words = each_text(alloc, &path, items)?;
             Ok(Undo::Run(Texts::make(words)))
         }
-        _ => Err(FileFault::WrongKind(field.path.copy(alloc)?)),
+        _ => Err(FileFault::WrongKind(field.path(alloc)?)),
     }
 }
 
-fn undo_named(alloc: Global, path: &Path, word: &str) -> Result<Undo, FileFault>
-    ensures ok { IfOk result (λ undo. undo_of path.now word.now ≡ Ok undo) }
-    ensures refused { IfErr result (RefusesWith (undo_of path.now word.now)) }
+fn undo_named(alloc: Global, field: &Field<'_>, word: &str) -> Result<Undo, FileFault>
+    ensures ok { IfOk result (λ undo. undo_of (place_of field.now) word.now ≡ Ok undo) }
+    ensures refused { IfErr result (RefusesWith (undo_of (place_of field.now) word.now)) }
 {
     match word {
         "ok" => Ok(Undo::Pass),
         "fail" => Ok(Undo::Fail),
-        _ => Err(FileFault::BadChoice(path.copy(alloc)?)),
+        _ => Err(FileFault::BadChoice(field.path(alloc)?)),
     }
 }

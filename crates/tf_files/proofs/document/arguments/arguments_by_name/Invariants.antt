@@ -1,0 +1,6 @@
+use Rattle.std.proofs.Common.{◌≡◌, [], map, take}
+use Rattle.tf_files.specs.document.Tasks.{required_argument}
+use Rattle.tf_files.proofs.document.arguments.arguments_by_name.Given as goal
+
+abbrev pub invariant-loop-name : goal.invariant-loop-name
+invariant-loop-name l = l.args.items ≡ map (required_argument []) (take l.name-index l.names)
