@@ -76,7 +76,7 @@ no_earlier : (plan : Outline) (a b : ℕ) → count plan ≤ a → is_earlier pl
 unfolding is_before
 no_earlier plan a b past = ap (path_before plan.flows (path plan b)) (no_way plan a past) ∙ before_none plan.flows (path plan b)
 
-no_later : (plan : Outline) (a b : ℕ) → count plan ≤ a → is_before plan a b ≡ false
+pub no_later : (plan : Outline) (a b : ℕ) → count plan ≤ a → is_before plan a b ≡ false
 unfolding is_before
 no_later plan a b past = ap (λ (w : List Turn). path_before plan.flows w (path plan b)) (no_way plan a past)
 
