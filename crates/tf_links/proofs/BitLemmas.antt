@@ -229,7 +229,7 @@ same_bit (suc zero) zero one other is = absurd (cc)
 same_bit (suc (suc x)) y one other is = absurd (omega arith)
 same_bit x (suc (suc y)) one other is = absurd (omega arith)
 
-bit_here : (zs : List ℕ) (i z b : ℕ) → b < 64 → z ≡ slice_index_or zs i 0 → nat_eq (bit_at z b) 1 ≡ has zs (i * 64 + b)
+pub bit_here : (zs : List ℕ) (i z b : ℕ) → b < 64 → z ≡ slice_index_or zs i 0 → nat_eq (bit_at z b) 1 ≡ has zs (i * 64 + b)
 unfolding has
 bit_here zs i z b below is = ap2 (λ (x y : ℕ). nat_eq (bit_at x y) 1) (is ∙ ap (λ (j : ℕ). slice_index_or zs j 0) (sym (word_of i b below))) (sym (bit_of i b below))
 

@@ -1,15 +1,18 @@
 -- The numbers of a set, one after another, and runs of them.
-use Rattle.std.proofs.Common.{◌≡◌, ◌≢◌, ℕ, ◌+◌, ◌*◌, ◌/◌, ◌%◌, ◌^◌, ◌<◌, ◌≤◌, List, [], ◌∷◌, ◌++◌, length, Bool, true, false, ◌&&◌, ◌||◌, not, Some, refl, sym, ap, ◌∙◌, add-one, inl, inr, arith, slice_set, slice_index_or, bit_and, bit_or, w64}
+use Rattle.std.proofs.Common.{◌≡◌, ◌≢◌, ℕ, ◌+◌, ◌-◌, ◌*◌, ◌/◌, ◌%◌, ◌^◌, ◌<◌, ◌≤◌, List, [], ◌∷◌, ◌++◌, length, Bool, true, false, ◌&&◌, ◌||◌, not, Some, refl, sym, ap, ◌∙◌, add-one, inl, inr, arith, slice_set, slice_index_or, bit_and, bit_or, w64}
 use Rattle.std.specs.Prelude.{nat_eq, if◌then◌else◌}
 use Rattle.std.specs.Int.{bit_at, bit_not, trailing_zeros}
 use Rattle.std.proofs.lemmas.Bool.{cases_lt}
-use Rattle.std.proofs.lemmas.Nat.{and_le_l}
+use Rattle.std.proofs.lemmas.Nat.{and_le_l, pow-add}
+use Rattle.std.proofs.Math.Nat.{div-div-eq-div-mul, div-le_self}
 use Rattle.std.proofs.lemmas.List.{length-set}
-use Rattle.std.proofs.lemmas.Nat.Bits.{bit_at-zero, shr_and_one}
+use Rattle.std.proofs.lemmas.Nat.Bits.{bit_at-zero, bit_at-lt, bit_at_above, bit_at_not, bit_at-trailing_zeros, shr_and_one}
 use Rattle.tf_numbers.specs.Numbers.{first_below, which_below}
-use Rattle.tf_links.specs.Bits.{has, room, has_both, is_within}
+use Rattle.tf_links.specs.Bits.{has, room, has_both, is_within, AreUnset, AreAlike, IsFirstBit}
 use Rattle.tf_numbers.proofs.BelowLemmas.{all_at, which_more}
-use Rattle.tf_links.proofs.BitLemmas.{index_zero, bit_below, insert_told, remove_told, Joined, joined_more, WithinBelow, within_more, within_not, ApartBelow, apart_more, common_found}
+use Rattle.tf_numbers.proofs.EquationLemmas.{ap2}
+use Rattle.tf_numbers.proofs.TruthLemmas.{clash}
+use Rattle.tf_links.proofs.BitLemmas.{index_zero, word_of, past_none, bit_here, insert_told, remove_told, Joined, joined_more, WithinBelow, within_more, within_not, ApartBelow, apart_more, common_found}
 
 -- ---- the numbers of a set
 
@@ -68,6 +71,59 @@ pub none_of_word : (xs : List ℕ) (i v : ℕ) → i < length xs → v ≡ slice
 none_of_word xs i v inside is none = sym (which_more (64 * i) (64 * (i + 1)) (has xs) (omega arith)
     (λ k above below. word_none xs i v k (index_zero xs i v inside is) none (omega (arith, above, below))))
 
+-- ---- the bits of a word, one after another
+
+-- the bits of a word that was shifted
+shifted : (word bit k : ℕ) → bit_at (word / 2 ^ bit) k ≡ bit_at word (bit + k)
+shifted word bit k = ap (λ (n : ℕ). n % 2) (div-div-eq-div-mul word (2 ^ bit) (2 ^ k) ∙ ap (λ (n : ℕ). word / n) (sym (pow-add 2 bit k)))
+
+unset_from : (word bit k : ℕ) → bit ≤ k → bit_at (word / 2 ^ bit) (k - bit) ≡ 0 → bit_at word k ≡ 0
+unset_from word bit k above none = let same : bit + (k - bit) ≡ k = omega (arith, above) in ap (bit_at word) (sym same) ∙ (sym (shifted word bit (k - bit)) ∙ none)
+
+-- what is left of a word is 0
+pub no_bit : (word bit rest : ℕ) → rest ≡ word / 2 ^ bit → rest ≡ 0 → AreUnset word bit 64
+no_bit word bit rest is none k above below =
+    unset_from word bit k above (ap (λ (n : ℕ). bit_at n (k - bit)) (sym is ∙ none) ∙ bit_at-zero (k - bit))
+
+-- the lowest bit of what is left
+pub first_bit : (word bit rest : ℕ) → rest ≡ word / 2 ^ bit → rest ≢ 0 → word < 2 ^ 64 → IsFirstBit word bit (bit + trailing_zeros w64 rest)
+first_bit word bit rest is some fits =
+    let less = div-le_self word (2 ^ bit) in
+    let rest_fits : rest < 2 ^ 64 = omega (arith, less, is, fits) in
+    let lowest = bit_at-trailing_zeros w64 rest (omega (arith, some)) rest_fits in
+    let set : bit_at word (bit + trailing_zeros w64 rest) ≡ 1 = sym (shifted word bit (trailing_zeros w64 rest)) ∙ (ap (λ (n : ℕ). bit_at n (trailing_zeros w64 rest)) (sym is) ∙ lowest.1) in
+    record {
+      begins = omega arith;
+      ends = elim (cases_lt (bit + trailing_zeros w64 rest) 64) [
+        | inl below ↦ below
+        | inr past ↦ let none = bit_at_above word 64 (bit + trailing_zeros w64 rest) fits past in absurd (omega (arith, set, none))
+      ];
+      set = set;
+      first = λ k above below. unset_from word bit k above (ap (λ (n : ℕ). bit_at n (k - bit)) (sym is) ∙ lowest.2 (k - bit) (omega (arith, above, below)));
+    }
+
+unset_number : (xs : List ℕ) (i bit v end k : ℕ) → i < length xs → v ≡ slice_index_or xs i v → AreUnset v bit end → end ≤ 64 → 64 * i + bit ≤ k → k < 64 * i + end → has xs k ≡ false
+unset_number xs i bit v end k inside read none most above below =
+    let place : k ≡ i * 64 + (k - 64 * i) = omega (arith, above) in
+    ap (has xs) place
+    ∙ (sym (bit_here xs i v (k - 64 * i) (omega (arith, above, below, most)) (index_zero xs i v inside read))
+    ∙ ap (λ (b : ℕ). nat_eq b 1) (none (k - 64 * i) (omega (arith, above)) (omega (arith, above, below))))
+
+-- none of a word's numbers is left
+pub word_over : (xs numbers : List ℕ) (i bit v : ℕ) → i < length xs → v ≡ slice_index_or xs i v → numbers ≡ which_below (64 * i + bit) (has xs) → bit ≤ 64 → AreUnset v bit 64 → numbers ≡ which_below (64 * (i + 1)) (has xs)
+word_over xs numbers i bit v inside read are room none =
+    are ∙ sym (which_more (64 * i + bit) (64 * (i + 1)) (has xs) (omega (arith, room)) (λ k above below. unset_number xs i bit v 64 k inside read none (omega arith) above (omega (arith, below))))
+
+-- the next of a word's numbers
+pub word_next : (xs numbers : List ℕ) (i bit v place : ℕ) → i < length xs → v ≡ slice_index_or xs i v → numbers ≡ which_below (64 * i + bit) (has xs) → IsFirstBit v bit place → numbers ++ (i * 64 + place) ∷ [] ≡ which_below (64 * i + (place + 1)) (has xs)
+word_next xs numbers i bit v place inside read are is =
+    let from = is.begins in
+    let here : i * 64 + place ≡ 64 * i + place = omega arith in
+    let next : 64 * i + place + 1 ≡ 64 * i + (place + 1) = omega arith in
+    ap2 (λ (ns : List ℕ) (n : ℕ). ns ++ n ∷ []) (are ∙ sym (which_more (64 * i + bit) (64 * i + place) (has xs) (omega (arith, from)) (λ k above below. unset_number xs i bit v place k inside read is.first (let ends = is.ends in omega (arith, ends)) above below))) here
+    ∙ (which_next (64 * i + place) (has xs) (ap (has xs) (sym here) ∙ (sym (bit_here xs i v place is.ends (index_zero xs i v inside read)) ∙ ap (λ (b : ℕ). nat_eq b 1) is.set))
+    ∙ ap (λ (n : ℕ). which_below n (has xs)) next)
+
 -- ---- runs of numbers
 
 -- the numbers from one on up to before the end are in the set as it is
@@ -77,30 +133,52 @@ IsRun words from end = (k : ℕ) → from ≤ k → k < end → has words k ≡ 
 pub run_start : (words : List ℕ) (from end : ℕ) → end ≡ from + 1 → IsRun words from end
 run_start words from end is k above below = let here : k ≡ from = omega (arith, is, above, below) in ap (has words) here
 
-pub run_more : (words : List ℕ) (from end : ℕ) (on there : Bool) → IsRun words from end → on ≡ has words from → there ≡ has words end → there ≡ on → IsRun words from (end + 1)
-run_more words from end on there before on_is there_is same k above below = elim (cases_lt k end) [
+pub run_on : (words : List ℕ) (from end next : ℕ) (on : Bool) → IsRun words from end → on ≡ has words from → AreAlike words on end (end + (64 - end % 64)) → next ≤ end + (64 - end % 64) → IsRun words from next
+run_on words from end next on before on_is each room k above below = elim (cases_lt k end) [
   | inl earlier ↦ before k above earlier
-  | inr late ↦ let here : k ≡ end = omega (arith, late, below) in ap (has words) here ∙ (sym there_is ∙ (same ∙ on_is))
+  | inr late ↦ each k late (omega (arith, below, room)) ∙ on_is
 ]
 
-pub run_word : (words : List ℕ) (from end : ℕ) (on : Bool) → IsRun words from end → on ≡ has words from → ((k : ℕ) → end ≤ k → k < end + 64 → has words k ≡ on) → IsRun words from (end + 64)
-run_word words from end on before on_is each k above below = elim (cases_lt k end) [
+pub run_cut : (words : List ℕ) (from end next other : ℕ) (on : Bool) → IsRun words from end → on ≡ has words from → AreAlike words on end other → next ≤ other → IsRun words from next
+run_cut words from end next other on before on_is each room k above below = elim (cases_lt k end) [
   | inl earlier ↦ before k above earlier
-  | inr late ↦ each k late below ∙ on_is
+  | inr late ↦ each k late (omega (arith, below, room)) ∙ on_is
 ]
+
+-- ---- a word's bits that aren't as they should be
+
+-- what the bits of a word tell of its numbers
+abbrev TellsOthers : List ℕ → ℕ → Bool → ℕ → Type 0
+TellsOthers words i on others = (k : ℕ) → k < 64 → bit_at others k ≡ 0 → has words (i * 64 + k) ≡ on
 
 full_bit : (i : ℕ) → i < 64 → nat_eq (bit_at 18446744073709551615 i) 1 ≡ true
 full_bit i below = all_at 64 (λ (j : ℕ). nat_eq (bit_at 18446744073709551615 j) 1) i refl below
 
--- a word that has all its numbers
-pub word_full : (words : List ℕ) (number v : ℕ) → number % 64 ≡ 0 → number / 64 < length words → v ≡ slice_index_or words (number / 64) v → v ≡ 18446744073709551615 → (k : ℕ) → number ≤ k → k < number + 64 → has words k ≡ true
-unfolding has
-word_full words number v begins within read full k above below =
-    let word : k / 64 ≡ number / 64 = omega (arith, begins, above, below) in
-    ap (λ (w : ℕ). nat_eq (bit_at w (k % 64)) 1) (ap (λ (i : ℕ). slice_index_or words i 0) word ∙ (sym (index_zero words (number / 64) v within read) ∙ full))
-    ∙ full_bit (k % 64) (bit_below k)
+bit_is_set : (b : ℕ) → b < 2 → 1 - b ≡ 0 → b ≡ 1
+bit_is_set b small none = omega (arith, small, none)
 
--- a word that has none
-pub word_empty : (words : List ℕ) (number v : ℕ) → number % 64 ≡ 0 → number / 64 < length words → v ≡ slice_index_or words (number / 64) v → v ≡ 0 → (k : ℕ) → number ≤ k → k < number + 64 → has words k ≡ false
-word_empty words number v begins within read none k above below =
-    word_none words (number / 64) v k (index_zero words (number / 64) v within read) none (omega (arith, begins, above, below))
+pub other_bits_on : (words : List ℕ) (i v : ℕ) → i < length words → v ≡ slice_index_or words i v → v < 2 ^ 64 → (k : ℕ) → k < 64 → bit_at (bit_not w64 v) k ≡ 0 → has words (i * 64 + k) ≡ true
+other_bits_on words i v inside read fits k below none =
+    sym (bit_here words i v k below (index_zero words i v inside read))
+    ∙ ap (λ (b : ℕ). nat_eq b 1) (bit_is_set (bit_at v k) (bit_at-lt v k) (sym (bit_at_not w64 v k fits below) ∙ none))
+
+pub other_bits_off : (words : List ℕ) (i v : ℕ) → i < length words → v ≡ slice_index_or words i v → (k : ℕ) → k < 64 → bit_at v k ≡ 0 → has words (i * 64 + k) ≡ false
+other_bits_off words i v inside read k below none =
+    sym (bit_here words i v k below (index_zero words i v inside read)) ∙ ap (λ (b : ℕ). nat_eq b 1) none
+
+pub other_bits_past_on : (words : List ℕ) (i : ℕ) → (k : ℕ) → k < 64 → bit_at 18446744073709551615 k ≡ 0 → has words (i * 64 + k) ≡ true
+other_bits_past_on words i k below none = absurd (clash (nat_eq (bit_at 18446744073709551615 k) 1) (full_bit k below) (ap (λ (b : ℕ). nat_eq b 1) none))
+
+pub other_bits_past : (words : List ℕ) (i : ℕ) → length words ≤ i → (k : ℕ) → k < 64 → has words (i * 64 + k) ≡ false
+other_bits_past words i past k below = past_none words (i * 64 + k) (omega (arith, past, word_of i k below))
+
+as_told : (words : List ℕ) (on : Bool) (number others end k : ℕ) → TellsOthers words (number / 64) on others → AreUnset others (number % 64) end → end ≤ 64 → number ≤ k → k < number - number % 64 + end → has words k ≡ on
+as_told words on number others end k tells none most above below =
+    let place : k ≡ number / 64 * 64 + (k - number / 64 * 64) = omega (arith, above) in
+    ap (has words) place ∙ tells (k - number / 64 * 64) (omega (arith, above, below, most)) (none (k - number / 64 * 64) (omega (arith, above)) (omega (arith, above, below)))
+
+pub none_other : (words : List ℕ) (on : Bool) (number others : ℕ) → TellsOthers words (number / 64) on others → AreUnset others (number % 64) 64 → AreAlike words on number (number + (64 - number % 64))
+none_other words on number others tells none k above below = as_told words on number others 64 k tells none (omega arith) above (omega (arith, below))
+
+pub one_other : (words : List ℕ) (on : Bool) (number others bit : ℕ) → TellsOthers words (number / 64) on others → IsFirstBit others (number % 64) bit → AreAlike words on number (number - number % 64 + bit)
+one_other words on number others bit tells is k above below = as_told words on number others bit k tells is.first (let ends = is.ends in omega (arith, ends)) above below

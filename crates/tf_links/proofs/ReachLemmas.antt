@@ -1,16 +1,16 @@
 -- Which item reaches which, by way of one pivot after another.
-use Rattle.std.proofs.Common.{◌≡◌, ◌≢◌, ℕ, zero, suc, ◌+◌, ◌<◌, ◌≤◌, List, [], ◌∷◌, ◌++◌, length, take, reverse, Bool, true, false, ◌&&◌, ◌||◌, None, refl, sym, ap, subst, ◌∙◌, add-one, inl, inr, ◌⊎◌, arith, eqb-true, eq-eqb, slice_index_or, slice_set}
+use Rattle.std.proofs.Common.{◌≡◌, ◌≢◌, ℕ, zero, suc, ◌+◌, ◌<◌, ◌≤◌, List, [], ◌∷◌, ◌++◌, length, take, reverse, Bool, true, false, ◌&&◌, ◌||◌, not, None, refl, sym, ap, subst, ◌∙◌, add-one, inl, inr, ◌⊎◌, arith, eqb-true, eq-eqb, slice_index_or, slice_set}
 use Rattle.std.specs.Prelude.{nat_eq, nat_lt, if◌then◌else◌}
 use Rattle.std.proofs.lemmas.Bool.{cases_lt, ltb-true, lt-ltb}
 use Rattle.std.proofs.lemmas.List.{reverse-append}
-use Rattle.tf_numbers.specs.Numbers.{first_below, has_number, Pair, has_pair}
+use Rattle.tf_numbers.specs.Numbers.{first_below, which_below, has_number, Pair, has_pair}
 use Rattle.tf_links.specs.Graphs.{leads_by, reached_by, reached}
-use Rattle.tf_numbers.proofs.TruthLemmas.{and_first, and_second, or_either, true_first, true_second, true_both, same_truth, never_true, clash, and_false, or_chain, or_false, or_nothing, or_turn}
-use Rattle.tf_numbers.proofs.BelowLemmas.{none_at}
-use Rattle.tf_numbers.proofs.PairLemmas.{pair_passes}
+use Rattle.tf_numbers.proofs.TruthLemmas.{and_first, and_second, or_either, true_first, true_second, true_both, same_truth, never_true, clash, and_false, neither_second, or_chain, or_false, or_nothing, or_turn}
+use Rattle.tf_numbers.proofs.BelowLemmas.{all_at, none_at}
+use Rattle.tf_numbers.proofs.PairLemmas.{pair_passes, which_passes, passes_which}
 use Rattle.tf_links.proofs.BitLemmas.{past_none}
 use Rattle.tf_links.proofs.ReachedLemmas.{reached_chain, reached_keeps}
-use Rattle.tf_links.specs.Bits.{has, room, words_for}
+use Rattle.tf_links.specs.Bits.{has, has_if, is_within, room, words_for}
 use Rattle.tf_links.specs.Links.{leads, IsSquare, LinksValue, AreLinks, leads_by_path, AreReached, ArePivots}
 use Rattle.tf_numbers.proofs.EquationLemmas.{ap2}
 use Rattle.tf_links.proofs.LinkLemmas.{past_row, row_zero, row_read, set_row}
@@ -107,6 +107,117 @@ passed_all count old pivot through rows i is square whole u v = is.told u v ∙ 
   | inr past ↦ let none : leads old u pivot ≡ false = sym (past_row old u pivot (omega (arith, square.height, whole, past))) in
       ap (λ (b : Bool). leads old u v || (b && has through v)) (ap (λ (b : Bool). nat_lt u i && b) none ∙ (and_false (nat_lt u i) ∙ sym none))
 ]
+
+-- ---- one pivot, by way of the items that may lead to it
+
+-- the rows of these items have what the pivot leads to, where they lead to the pivot
+pub record PassedAmong (count : ℕ) (old : List (List ℕ)) (pivot : ℕ) (through : List ℕ) (rows : List (List ℕ)) (items : List ℕ) : Type 0 where
+  pub square : IsSquare count rows
+  pub told : (u v : ℕ) → leads rows u v ≡ (leads old u v || ((has_number items u && leads old u pivot) && has through v))
+
+or_again : (o d a t : Bool) → (o || ((d && a) && t)) || (a && t) ≡ o || (((d || true) && a) && t)
+or_again true true true true = refl
+or_again true true true false = refl
+or_again true true false true = refl
+or_again true true false false = refl
+or_again true false true true = refl
+or_again true false true false = refl
+or_again true false false true = refl
+or_again true false false false = refl
+or_again false true true true = refl
+or_again false true true false = refl
+or_again false true false true = refl
+or_again false true false false = refl
+or_again false false true true = refl
+or_again false false true false = refl
+or_again false false false true = refl
+or_again false false false false = refl
+
+or_absorbed : (a d t : Bool) → (a || ((d && a) && t)) ≡ a
+or_absorbed true true true = refl
+or_absorbed true true false = refl
+or_absorbed true false true = refl
+or_absorbed true false false = refl
+or_absorbed false true true = refl
+or_absorbed false true false = refl
+or_absorbed false false true = refl
+or_absorbed false false false = refl
+
+pub among_start : (count : ℕ) (old : List (List ℕ)) (pivot : ℕ) (through items : List ℕ) → IsSquare count old → PassedAmong count old pivot through old (take 0 items)
+among_start count old pivot through items square = record {
+  square = square;
+  told = λ u v. or_nothing (leads old u v) _ (ap (λ (xs : List ℕ). (has_number xs u && leads old u pivot) && has through v) (taking_none items));
+}
+
+pub among_next : (count : ℕ) (old : List (List ℕ)) (pivot : ℕ) (through items : List ℕ) (rows new : List (List ℕ)) (i item : ℕ) → PassedAmong count old pivot through rows (take i items) → i < length items → item ≡ slice_index_or items i 0 → IsSquare count new
+    → ((a b : ℕ) → leads new a b ≡ (leads rows a b || (nat_eq item a && (leads rows item pivot && has through b)))) → PassedAmong count old pivot through new (take (i + 1) items)
+among_next count old pivot through items rows new i item is below read square more = record {
+  square = square;
+  told = λ u v. more u v ∙ (ap (λ (b : Bool). b || (nat_eq item u && (leads rows item pivot && has through v))) (is.told u v) ∙ (by_row u v (nat_eq item u) refl
+      ∙ ap (λ (b : Bool). leads old u v || ((b && leads old u pivot) && has through v)) (sym (one_more u))));
+}
+  where
+    one_more : (u : ℕ) → has_number (take (i + 1) items) u ≡ (has_number (take i items) u || nat_eq item u)
+    one_more u = ap (λ (xs : List ℕ). has_number xs u) (ap (λ (n : ℕ). take n items) (add-one i) ∙ taking_next items i below)
+        ∙ (number_more (take i items) (slice_index_or items i 0) u ∙ (ap (λ (n : ℕ). has_number (take i items) u || nat_eq u n) (sym read) ∙ ap (λ (b : Bool). has_number (take i items) u || b) (turn_eq u item)))
+
+    led : leads rows item pivot ≡ leads old item pivot
+    led = is.told item pivot ∙ or_absorbed (leads old item pivot) (has_number (take i items) item) (has through pivot)
+
+    by_row : (u v : ℕ) (b : Bool) → nat_eq item u ≡ b → ((leads old u v || ((has_number (take i items) u && leads old u pivot) && has through v)) || (b && (leads rows item pivot && has through v)))
+        ≡ (leads old u v || (((has_number (take i items) u || b) && leads old u pivot) && has through v))
+    by_row u v true same =
+        ap (λ (b : Bool). (leads old u v || ((has_number (take i items) u && leads old u pivot) && has through v)) || (b && has through v)) (led ∙ ap (λ (n : ℕ). leads old n pivot) (eqb-true item u same))
+        ∙ or_again (leads old u v) (has_number (take i items) u) (leads old u pivot) (has through v)
+    by_row u v false other = or_false _ ∙ ap (λ (b : Bool). leads old u v || ((b && leads old u pivot) && has through v)) (sym (or_false (has_number (take i items) u)))
+
+pub among_all : (count : ℕ) (old : List (List ℕ)) (pivot : ℕ) (through items : List ℕ) (rows : List (List ℕ)) (i : ℕ) → PassedAmong count old pivot through rows (take i items) → length items ≤ i → ((u : ℕ) → leads old u pivot ≡ true → has_number items u ≡ true)
+    → (u v : ℕ) → leads rows u v ≡ (leads old u v || (leads old u pivot && has through v))
+among_all count old pivot through items rows i is whole all u v =
+    is.told u v ∙ (ap (λ (xs : List ℕ). leads old u v || ((has_number xs u && leads old u pivot) && has through v)) (taking_all items i whole)
+    ∙ ap (λ (b : Bool). leads old u v || (b && has through v)) (same_truth (has_number items u && leads old u pivot) (leads old u pivot)
+    (λ both. and_second (has_number items u) (leads old u pivot) both)
+    (λ on. true_both (has_number items u) (leads old u pivot) (all u on) on)))
+
+-- all that lead to an item, by the rows of links turned round
+pub led_from_all : (to from : List (List ℕ)) (count item : ℕ) (row items : List ℕ) → IsSquare count to → ((u v : ℕ) → leads to v u ≡ leads from u v) → item < count → row ≡ slice_index_or to item row → items ≡ which_below (room row) (has row)
+    → (u : ℕ) → leads from u item ≡ true → has_number items u ≡ true
+led_from_all to from count item row items square back below read are u on =
+    let has_it : has row u ≡ true = row_read to item u row (omega (arith, square.height, below)) read ∙ (back u item ∙ on) in
+    ap (λ (xs : List ℕ). has_number xs u) are ∙ elim (cases_lt u (room row)) [
+      | inl within ↦ passes_which (room row) (has row) (nat_eq u) u within has_it (eq-eqb u u refl)
+      | inr past ↦ absurd (clash (has row u) has_it (past_none row u (omega (arith, past))))
+    ]
+
+pub led_from_within : (to from : List (List ℕ)) (count item : ℕ) (row items : List ℕ) → IsSquare count to → IsSquare count from → ((u v : ℕ) → leads to v u ≡ leads from u v) → item < count → row ≡ slice_index_or to item row → items ≡ which_below (room row) (has row)
+    → (u : ℕ) → has_number items u ≡ true → u < count
+led_from_within to from count item row items square from_square back below read are u on =
+    let found = which_passes (room row) (has row) (nat_eq u) (ap (λ (xs : List ℕ). has_number xs u) (sym are) ∙ on) in
+    let same : u ≡ found.number = eqb-true u found.number found.passes in
+    let leads_it : leads from u item ≡ true = sym (back u item) ∙ (sym (row_read to item u row (omega (arith, square.height, below)) read) ∙ (ap (has row) same ∙ found.tested)) in
+    elim (cases_lt u count) [
+      | inl within ↦ within
+      | inr past ↦ absurd (clash (leads from u item) leads_it (sym (past_row from u item (omega (arith, past, from_square.height)))))
+    ]
+
+-- what isn't in a set isn't in another that is within it
+pub passed_within : (through passed : List ℕ) (on : Bool) → on ≡ is_within through passed → on ≡ true → (k : ℕ) → has passed k ≡ false → has through k ≡ false
+passed_within through passed on is within k out = elim (cases_lt k (room through)) [
+  | inl below ↦ never_true (has through k) (λ has_it. clash (has_if through passed k) (all_at (room through) (has_if through passed) k (sym is ∙ within) below)
+      (ap2 (λ (a b : Bool). not a || b) has_it out))
+  | inr past ↦ past_none through k (omega (arith, past))
+]
+
+-- no row has got a pivot that isn't passed
+abbrev pub IsKept : List (List ℕ) → List (List ℕ) → List ℕ → Type 0
+IsKept links rows passed = (u w : ℕ) → has passed w ≡ false → leads rows u w ≡ leads links u w
+
+pub kept_more : (links rows new : List (List ℕ)) (passed others through : List ℕ) (pivot : ℕ) → IsKept links rows passed → ((k : ℕ) → has others k ≡ (nat_eq pivot k || has passed k))
+    → ((u v : ℕ) → leads new u v ≡ (leads rows u v || (leads rows u pivot && has through v))) → ((k : ℕ) → has others k ≡ false → has through k ≡ false) → IsKept links new others
+kept_more links rows new passed others through pivot before set more within u w out =
+    more u w
+    ∙ (sym (or_nothing (leads rows u w) (leads rows u pivot && has through w) (ap (λ (b : Bool). leads rows u pivot && b) (within w out) ∙ and_false (leads rows u pivot)))
+    ∙ before u w (neither_second (nat_eq pivot w) (has passed w) (sym (set w) ∙ out)))
 
 -- ---- all pivots
 

@@ -1,6 +1,7 @@
-ghost use Rattle.std.specs.Prelude.{◌≡◌, ℕ, ◌+◌, ◌*◌, ◌^◌, ◌<◌, ◌≤◌, Bool, true, false, ◌&&◌, ◌||◌, not, nat_eq, length, OnOk, IfOk, if◌then◌else◌};
+ghost use Rattle.std.specs.Prelude.{◌≡◌, ℕ, ◌+◌, ◌-◌, ◌*◌, ◌%◌, ◌^◌, ◌<◌, ◌≤◌, Bool, true, false, ◌&&◌, ◌||◌, not, nat_eq, length, None, OnOk, IfOk, IfSome, if◌then◌else◌};
 ghost use Rattle.tf_numbers.specs.Numbers.{which_below, first_below};
-ghost use Rattle.tf_links.specs.Bits.{has, room, has_both, is_within, words_for};
+ghost use Rattle.std.specs.Int.{bit_at};
+ghost use Rattle.tf_links.specs.Bits.{has, room, has_both, is_within, words_for, AreAlike, AreUnset, IsFirstBit};
 
 use std::alloc::Global;
 use std::marker::Model;
@@ -138,9 +139,9 @@ impl Bits {
         self.first_common(self)
     }
 
-    /// Up to before which number, at most `past`, all from this one on are in the set, or all aren't. Whole
-    /// words are passed at once.
-    #[tactic(auto, using(crate::proofs::NumberLemmas::run_start, crate::proofs::NumberLemmas::run_more, crate::proofs::NumberLemmas::run_word))]
+    /// Up to before which number, at most `past`, all from this one on are in the set, or all aren't. A word is
+    /// passed at once.
+    #[tactic(auto, using(crate::proofs::NumberLemmas::run_start, crate::proofs::NumberLemmas::run_on, crate::proofs::NumberLemmas::run_cut))]
     pub fn run_end(&self, from: usize, past: usize) -> usize
         requires { from < past }
         ensures begins { from < result }
@@ -150,32 +151,36 @@ impl Bits {
         let on = self.has(from);
         let mut end = from + 1;
         while end < past {
-            if self.is_word_alike(end, past, on) {
-                end += 64;
-            } else if self.has(end) == on {
-                end += 1;
-            } else {
-                return end;
+            match self.first_other(end, on) {
+                Some(other) => return other.min(past),
+                None => end = end.saturating_add(64 - end % 64),
             }
         }
-        end
+        past
     }
 
-    /// Whether a word begins with this number, ends before `past`, and has all its numbers, or none.
-    #[tactic(auto, using(crate::proofs::NumberLemmas::word_full, crate::proofs::NumberLemmas::word_empty))]
-    fn is_word_alike(&self, number: usize, past: usize, on: bool) -> bool
-        requires { number < past }
-        ensures room { result ≡ true → number + 64 ≤ past }
-        ensures alike { result ≡ true → (k : ℕ) → number ≤ k → k < number + 64 → has self.now k ≡ on }
+    /// The first number from this one on in its word that is in the set where it shouldn't, or the other way
+    /// round.
+    fn first_other(&self, number: usize, on: bool) -> Option<usize>
+        ensures none { result ≡ None → AreAlike self.now on number (number + (64 - number % 64)) }
+        ensures begins { IfSome result (λ other. number ≤ other) }
+        ensures some { IfSome result (AreAlike self.now on number) }
     {
-        if number % 64 != 0 || past - number < 64 || self.words.len() <= number / 64 {
-            return false;
+        match next_bit(self.others(number / 64, on), number % 64) {
+            None => None,
+            Some(bit) => Some(number - number % 64 + bit),
         }
-        if on {
-            self.words[number / 64] == u64::MAX
-        } else {
-            self.words[number / 64] == 0
+    }
+
+    /// The bits that aren't in a word as they should.
+    #[tactic(auto, using(crate::proofs::NumberLemmas::other_bits_on, crate::proofs::NumberLemmas::other_bits_off, crate::proofs::NumberLemmas::other_bits_past_on, crate::proofs::NumberLemmas::other_bits_past))]
+    fn others(&self, i: usize, on: bool) -> u64
+        ensures { (k : ℕ) → k < 64 → bit_at result k ≡ 0 → has self.now (i * 64 + k) ≡ on }
+    {
+        if self.words.len() <= i {
+            return if on { u64::MAX } else { 0 };
         }
+        if on { !self.words[i] } else { self.words[i] }
     }
 
     /// The numbers of the set, ascending.
@@ -193,19 +198,38 @@ impl Bits {
     }
 
     /// Adds the numbers that word `i` has.
-    #[tactic(auto, using(crate::proofs::NumberLemmas::which_next, crate::proofs::NumberLemmas::which_pass))]
+    #[tactic(auto, using(crate::proofs::NumberLemmas::word_over, crate::proofs::NumberLemmas::word_next))]
     fn add_numbers_of_word(&self, i: usize, numbers: &mut Vec<usize>) -> Result<(), Memory>
         requires within { i < length self.now }
         requires few { i < 2 ^ 58 }
         requires before { numbers.old.items ≡ which_below (64 * i) (has self.now) }
         ensures { OnOk result (numbers.new.items ≡ which_below (64 * (i + 1)) (has self.now)) }
     {
-        for bit in 0..64 {
-            let number = i * 64 + bit;
-            if self.has(number) {
-                numbers.push(number)?;
+        let word = self.words[i];
+        let mut bit = 0;
+        while bit < 64 {
+            match next_bit(word, bit) {
+                None => return Ok(()),
+                Some(place) => {
+                    numbers.push(i * 64 + place)?;
+                    bit = place + 1;
+                }
             }
         }
         Ok(())
     }
+}
+
+/// The first bit of a word that is set, from one on.
+#[tactic(auto, using(crate::proofs::NumberLemmas::no_bit))]
+fn next_bit(word: u64, bit: usize) -> Option<usize>
+    requires { bit < 64 }
+    ensures none { result ≡ None → AreUnset word bit 64 }
+    ensures some { IfSome result (IsFirstBit word bit) }
+{
+    let rest = word >> bit;
+    if rest == 0 {
+        return None;
+    }
+    Some(bit + rest.trailing_zeros() as usize)
 }

@@ -79,6 +79,18 @@ impl Links {
         Ok(items)
     }
 
+    /// The items that lead to an item.
+    #[tactic(auto, using(crate::proofs::ReachLemmas::led_from_all, crate::proofs::ReachLemmas::led_from_within))]
+    pub(crate) fn led_from(&self, alloc: Global, item: usize) -> Result<Vec<usize>, Memory>
+        requires { item < self.now.count }
+        ensures all { IfOk result (λ items. (u : ℕ) → leads self.now.rows u item ≡ true
+            → has_number items.items u ≡ true) }
+        ensures within { IfOk result (λ items. (u : ℕ) → has_number items.items u ≡ true → u < self.now.count) }
+    {
+        let items = self.to[item].numbers(alloc)?;
+        Ok(items)
+    }
+
     /// The first item of a set that an item leads to.
     #[tactic(auto, using(crate::proofs::LinkLemmas::first_read, crate::proofs::LinkLemmas::row_zero))]
     pub(crate) fn first_into(&self, item: usize, set: &Bits) -> Option<usize>

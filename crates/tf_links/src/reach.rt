@@ -18,11 +18,43 @@ impl Links {
     {
         let pivots = self.pivots(alloc)?;
         let mut rows = copy_rows(alloc, self.rows())?;
+        let mut passed = Bits::new(alloc, self.count())?;
+        let mut is_kept = true;
         for pivot in &pivots {
             let through = rows[*pivot].copy(alloc)?;
-            pass(&mut rows, *pivot, &through);
+            let is_linked = is_kept_at(is_kept, *pivot, &passed);
+            self.pass_pivot(alloc, *pivot, &through, is_linked, &mut rows)?;
+            passed.insert(*pivot);
+            is_kept = stays_kept(is_kept, &through, &passed);
         }
         Ok(rows)
+    }
+
+    /// Adds to each row that has the pivot what the pivot's row has. Where no row has got the pivot, only the
+    /// items that are linked to it are asked.
+    fn pass_pivot(
+        &self,
+        alloc: Global,
+        pivot: usize,
+        through: &Bits,
+        is_linked: bool,
+        rows: &mut Vec<Bits>,
+    ) -> Result<(), Memory>
+        requires pivot { pivot < self.now.count }
+        requires square { IsSquare self.now.count rows.old.items }
+        requires wide { length through.now ≡ words_for self.now.count }
+        requires linked { is_linked ≡ true → (u : ℕ) → leads rows.old.items u pivot ≡ leads self.now.rows u pivot }
+        ensures square { OnOk result (IsSquare self.now.count rows.new.items) }
+        ensures more { OnOk result ((u v : ℕ) → leads rows.new.items u v
+            ≡ (leads rows.old.items u v || (leads rows.old.items u pivot && has through.now v))) }
+    {
+        if !is_linked {
+            pass(rows, pivot, through);
+            return Ok(());
+        }
+        let items = self.led_from(alloc, pivot)?;
+        pass_to(&items, rows, pivot, through);
+        Ok(())
     }
 
     /// All items, each once: first those in standing order backwards, so that where no cycle is, few rows
@@ -64,6 +96,45 @@ fn add_pivot(
         among.insert(item);
     }
     Ok(())
+}
+
+/// Whether no row has got a pivot that isn't passed, and this is such a pivot.
+fn is_kept_at(is_kept: bool, pivot: usize, passed: &Bits) -> bool
+    ensures { result ≡ true → (is_kept ≡ true) × (has passed.now pivot ≡ false) }
+{
+    if !is_kept {
+        return false;
+    }
+    !passed.has(pivot)
+}
+
+/// Whether no row has got a pivot that isn't passed, where the rows got these.
+#[tactic(auto, using(crate::proofs::ReachLemmas::passed_within))]
+fn stays_kept(is_kept: bool, through: &Bits, passed: &Bits) -> bool
+    requires wide { length through.now ≡ length passed.now }
+    ensures before { result ≡ true → is_kept ≡ true }
+    ensures within { result ≡ true → (k : ℕ) → has passed.now k ≡ false → has through.now k ≡ false }
+{
+    if !is_kept {
+        return false;
+    }
+    through.is_within(passed)
+}
+
+/// Adds to the rows of these items, among which are all whose row has the pivot, what the pivot's row has.
+#[tactic(auto, using(crate::proofs::ReachLemmas::among_start, crate::proofs::ReachLemmas::among_next, crate::proofs::ReachLemmas::among_all, crate::proofs::ReachLemmas::pivot_within))]
+fn pass_to(items: &[usize], rows: &mut Vec<Bits>, pivot: usize, through: &Bits)
+    requires all { (u : ℕ) → leads rows.old.items u pivot ≡ true → has_number items.now u ≡ true }
+    requires within { (u : ℕ) → has_number items.now u ≡ true → u < length rows.old.items }
+    requires square { IsSquare (length rows.old.items) rows.old.items }
+    requires wide { length through.now ≡ words_for (length rows.old.items) }
+    ensures square { IsSquare (length rows.old.items) rows.new.items }
+    ensures more { (u v : ℕ)
+        → leads rows.new.items u v ≡ (leads rows.old.items u v || (leads rows.old.items u pivot && has through.now v)) }
+{
+    for u in items {
+        pass_row(rows, *u, pivot, through);
+    }
 }
 
 /// Adds to each row that has the pivot what the pivot's row has, if it has any.

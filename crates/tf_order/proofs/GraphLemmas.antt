@@ -13,7 +13,7 @@ use Rattle.tf_model.specs.Readiness.{same_flow, last_item}
 use Rattle.tf_model.proofs.Told.{path_in, flow_in}
 use Rattle.tf_model.specs.Scope.{is_earlier}
 use Rattle.tf_order.specs.Graph.{GraphValue, IsGraphOf, predecessors_of, successors_of, direct_tasks_of, leads_to, leads_in}
-use Rattle.tf_order.specs.Rows.{row_in, row_at, is_in_row}
+use Rattle.tf_order.specs.Rows.{row_in, row_at}
 use Rattle.std.proofs.lemmas.List.{map-append}
 use Rattle.std.proofs.lemmas.Option.{slice_get_past}
 use Rattle.tf_numbers.proofs.PairLemmas.{which_passes, passes_which}
@@ -76,7 +76,7 @@ no_earlier : (plan : Outline) (a b : ℕ) → count plan ≤ a → is_earlier pl
 unfolding is_before
 no_earlier plan a b past = ap (path_before plan.flows (path plan b)) (no_way plan a past) ∙ before_none plan.flows (path plan b)
 
-no_later : (plan : Outline) (a b : ℕ) → count plan ≤ a → is_before plan a b ≡ false
+pub no_later : (plan : Outline) (a b : ℕ) → count plan ≤ a → is_before plan a b ≡ false
 unfolding is_before
 no_later plan a b past = ap (λ (w : List Turn). path_before plan.flows w (path plan b)) (no_way plan a past)
 
@@ -117,19 +117,10 @@ listed_number n test k past = same_truth (has_number (which_below n test) k) (te
       | inr from ↦ let no : true ≡ false = sym is ∙ past from in absurd (cc)
     ])
 
-not_below : (b n : ℕ) → nat_lt b n ≡ false → n ≤ b
-not_below b n off = elim (cases_lt b n) [
-  | inl below ↦ let no : true ≡ false = sym (lt-ltb b n below) ∙ off in absurd (cc)
-  | inr from ↦ from
-]
-
--- the sets of the rows tell what is before what
-pub row_before : (graph : GraphValue) (plan : PlanValue) (a b : ℕ) → IsGraphOf graph plan → is_in_row graph.successors a b ≡ is_before (outline_of plan) a b
-row_before graph plan a b is = by_room (nat_lt b (length graph.successors)) refl
-  where
-    same_count : length graph.successors ≡ count (outline_of plan)
-    same_count = ap length is.successors ∙ rows_length (successors_of (outline_of plan)) (count (outline_of plan))
-
-    by_room : (r : Bool) → nat_lt b (length graph.successors) ≡ r → (r && has_number (row_at graph.successors a) b) ≡ is_before (outline_of plan) a b
-    by_room true within = ap (λ (xs : List ℕ). has_number xs b) (successors_told graph plan a is) ∙ listed_number (count (outline_of plan)) (is_before (outline_of plan) a) b (λ past. no_earlier (outline_of plan) b a past)
-    by_room false past = sym (no_earlier (outline_of plan) b a (not_below b (count (outline_of plan)) (ap (nat_lt b) (sym same_count) ∙ past)))
+-- the row of an atom tells what it is before
+pub listed_before : (plan : PlanValue) (a b : ℕ) (row : List ℕ) (on : Bool) → row ≡ successors_of (outline_of plan) a
+    → ((count : ℕ) → (test : ℕ → Bool) → row ≡ which_below count test → on ≡ has_number row b) → on ≡ is_before (outline_of plan) a b
+listed_before plan a b row on is told =
+    told (count (outline_of plan)) (is_before (outline_of plan) a) is
+    ∙ (ap (λ (xs : List ℕ). has_number xs b) is
+    ∙ listed_number (count (outline_of plan)) (is_before (outline_of plan) a) b (λ past. no_earlier (outline_of plan) b a past))

@@ -15,3 +15,4 @@ pub mod TableLemmas
 pub mod SpreadLemmas
 pub mod DirectLemmas
 pub mod RootItemLemmas
+pub mod RowLemmas

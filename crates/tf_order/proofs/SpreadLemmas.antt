@@ -1,9 +1,9 @@
 -- Rows that grow by stretches of numbers, and what tables tell of a plan.
 use Rattle.tf_flow.specs.Paths.{shown_part}
-use Rattle.std.proofs.Common.{◌≡◌, ◌≢◌, ℕ, zero, suc, ◌+◌, ◌<◌, ◌≤◌, ◌-◌, ◌⊎◌, List, [], ◌∷◌, ◌++◌, length, take, drop, map, Bool, true, false, ◌&&◌, Option, Some, None, refl, sym, ap, subst, ◌∙◌, add-one, inl, inr, arith, eqb-true, eq-eqb, slice_set, slice_get, slice_index_or}
+use Rattle.std.proofs.Common.{◌≡◌, ◌≢◌, ℕ, zero, suc, ◌+◌, ◌<◌, ◌≤◌, ◌-◌, ◌⊎◌, List, [], ◌∷◌, ◌++◌, length, take, drop, map, Bool, true, false, ◌&&◌, not, Option, Some, None, refl, sym, ap, subst, ◌∙◌, add-one, inl, inr, arith, eqb-true, eq-eqb, slice_set, slice_get, slice_index_or}
 use Rattle.std.specs.Prelude.{nat_eq, nat_le, nat_lt, slice_range, if◌then◌else◌}
 use Rattle.std.proofs.lemmas.Bool.{cases_lt, lt-ltb, ltb-true, le-leb, leb-true}
-use Rattle.std.proofs.lemmas.List.{length-set, length-map}
+use Rattle.std.proofs.lemmas.List.{length-set, length-map, get_or-set_same, get_or-set_other}
 use Rattle.std.specs.Option.{unwrap_or}
 use Rattle.tf_model.specs.Before.{Flow, find_flow, no_flow, path_at}
 use Rattle.tf_numbers.specs.Numbers.{numbers_below, which_below}
@@ -21,7 +21,8 @@ use Rattle.tf_order.specs.Graph.{GraphValue, leads_to, leads_in, standing_of_pla
 use Rattle.tf_flow.specs.Listing.{shown_atom, shown_atoms}
 use Rattle.tf_order.specs.Rows.{row_in, row_at}
 use Rattle.tf_order.specs.Stretches.{TellsTheSame}
-use Rattle.tf_order.specs.Tables.{plan_seen, atoms_found, number_if, RowAdded, RowsAdded, AreRows, AreTables, AllBelow, leads_from, flow_in_flows}
+use Rattle.tf_order.specs.Tables.{plan_seen, atoms_found, number_if, RowAdded, IsRowUpTo, AreRowsUpTo, is_after_last, AreRowsAt, AreSet, AreClosed, AreRows, AreTables, AllBelow, leads_from, flow_in_flows}
+use Rattle.tf_order.proofs.StretchLemmas.{past_is_before_none}
 use Rattle.tf_order.specs.Paths.{flow_of_turn, item_of_turn}
 use Rattle.tf_numbers.proofs.BelowLemmas.{which_more}
 use Rattle.tf_numbers.proofs.EquationLemmas.{ap2}
@@ -88,104 +89,167 @@ row_added at on number rows row new is below read pushed = record {
         ∙ ap2 (λ (r : List ℕ) (b : Bool). r ++ number_if b number) (sym (row_read_at rows at row below read) ∙ ap (row_at rows) e) (sym is)))
     by_row k false other = ap row_in (get_set_other rows at k new (λ same. clash (nat_eq at k) (eq-eqb at k (sym same)) other))
 
-pub added_start : (test : ℕ → Bool) (number : ℕ) (rows : List (List ℕ)) → RowsAdded 0 test number rows rows
-added_start test number rows = record { height = refl; told = λ k. sym (ap (λ (b : Bool). row_at rows k ++ number_if (b && test k) number) (none k) ∙ nothing_after (row_at rows k)) }
-  where
-    none : (k : ℕ) → nat_lt k 0 ≡ false
-    none k = never_true (nat_lt k 0) (λ is. let below : k < 0 = ltb-true k 0 is in absurd (omega (arith, below)))
+-- ---- rows that are open and closed
 
-pub added_next : (test : ℕ → Bool) (number i : ℕ) (old rows new : List (List ℕ)) → RowsAdded i test number old rows → RowAdded i (number_if (test i) number) rows new → RowsAdded (i + 1) test number old new
-added_next test number i old rows new before more = record {
-  height = more.height ∙ before.height;
-  told = λ k. more.told k ∙ by_row k (nat_eq i k) refl;
+pub setting_start : (number from : ℕ) (old : List ℕ) → AreSet number from from old old
+setting_start number from old = record { height = refl; inside = λ k above below. absurd (omega (arith, above, below)); outside = λ k out. refl }
+
+pub setting_next : (number from i : ℕ) (old new : List ℕ) → AreSet number from i old new → from ≤ i → i < length new → AreSet number from (i + 1) old (slice_set new i number)
+setting_next number from i old new before above room = record {
+  height = length-set new i number ∙ before.height;
+  inside = λ k from_k below. elim (cases_lt k i) [
+    | inl earlier ↦ index_set_other new i k number (λ same. omega (arith, earlier, same)) ∙ before.inside k from_k earlier
+    | inr late ↦ let here : k ≡ i = omega (arith, late, below) in ap (λ (n : ℕ). slice_index_or (slice_set new i number) n 0) here ∙ index_set_same new i number room
+  ];
+  outside = λ k out. elim out [
+    | inl low ↦ index_set_other new i k number (λ same. omega (arith, low, same, above)) ∙ before.outside k (inl low)
+    | inr high ↦ index_set_other new i k number (λ same. omega (arith, high, same)) ∙ before.outside k (inr (omega (arith, high)))
+  ];
 }
   where
-    not_yet : (k : ℕ) → i ≡ k → nat_lt k i ≡ false
-    not_yet k same = never_true (nat_lt k i) (λ is. let below : k < i = ltb-true k i is in absurd (omega (arith, below, same)))
+    index_set_same : (xs : List ℕ) (i x : ℕ) → i < length xs → slice_index_or (slice_set xs i x) i 0 ≡ x
+    index_set_same xs i x below = get_or-set_same xs i x 0 below
 
-    as_before : (k : ℕ) → nat_eq i k ≡ false → nat_lt k i ≡ nat_lt k (i + 1)
-    as_before k other = same_truth (nat_lt k i) (nat_lt k (i + 1))
-        (λ less. let below : k < i = ltb-true k i less in lt-ltb k (i + 1) (omega (arith, below)))
-        (λ less. let below : k < i + 1 = ltb-true k (i + 1) less in
-        let differ : i ≢ k = λ same. clash (nat_eq i k) (eq-eqb i k same) other in lt-ltb k i (omega (arith, below, differ)))
+    index_set_other : (xs : List ℕ) (i j x : ℕ) → j ≢ i → slice_index_or (slice_set xs i x) j 0 ≡ slice_index_or xs j 0
+    index_set_other xs i j x differ = get_or-set_other xs i j x 0 differ
 
-    by_row : (k : ℕ) (b : Bool) → nat_eq i k ≡ b → (if b then row_at rows k ++ number_if (test i) number else row_at rows k) ≡ row_at old k ++ number_if (nat_lt k (i + 1) && test k) number
-    by_row k true same = let e : i ≡ k = eqb-true i k same in
-        ap (λ (r : List ℕ). r ++ number_if (test i) number) (before.told k ∙ (ap (λ (b : Bool). row_at old k ++ number_if (b && test k) number) (not_yet k e) ∙ nothing_after (row_at old k)))
-        ∙ ap2 (λ (b : Bool) (n : ℕ). row_at old k ++ number_if (b && test n) number) (sym (lt-ltb k (i + 1) (omega (arith, e)))) e
-    by_row k false other = before.told k ∙ ap (λ (b : Bool). row_at old k ++ number_if (b && test k) number) (as_before k other)
+pub closing_start : (numbers : List ℕ) (number from : ℕ) (opened : List ℕ) (old : List (List ℕ)) → AreClosed numbers number from from opened old old
+closing_start numbers number from opened old = record { height = refl; inside = λ k above below. absurd (omega (arith, above, below)); outside = λ k out. refl }
 
--- the rows from one up to before the end, each with a number more
-pub spread_start : (from number : ℕ) (rows : List (List ℕ)) → RowsAdded from (nat_le from) number rows rows
-spread_start from number rows = record { height = refl; told = λ k. sym (ap (λ (b : Bool). row_at rows k ++ number_if b number) (none k) ∙ nothing_after (row_at rows k)) }
-  where
-    none : (k : ℕ) → nat_lt k from && nat_le from k ≡ false
-    none k = never_true (nat_lt k from && nat_le from k) (λ is.
-        let below : k < from = ltb-true k from (and_first (nat_lt k from) (nat_le from k) is) in
-        let above : from ≤ k = leb-true from k (and_second (nat_lt k from) (nat_le from k) is) in
-        absurd (omega (arith, below, above)))
-
-pub spread_next : (from i number : ℕ) (old rows : List (List ℕ)) (row new : List ℕ) → RowsAdded i (nat_le from) number old rows → from ≤ i → i < length rows → row ≡ slice_index_or rows i row → new ≡ row ++ number ∷ []
-    → RowsAdded (i + 1) (nat_le from) number old (slice_set rows i new)
-spread_next from i number old rows row new before above below read pushed =
-    added_next (nat_le from) number i old rows (slice_set rows i new) before (row_added i (nat_le from i) number rows row new (le-leb from i above) below read pushed)
-
--- the rows of a stretch of numbers that pass, or don't
-pub rows_stretched : (test : ℕ → Bool) (on : Bool) (b end number : ℕ) (old rows new : List (List ℕ)) → RowsAdded b test number old rows → TellsTheSame test on b end → on ≡ true → b ≤ end → RowsAdded end (nat_le b) number rows new → RowsAdded end test number old new
-rows_stretched test on b end number old rows new before same passed order more = record {
-  height = more.height ∙ before.height;
-  told = λ k. more.told k
-      ∙ (ap (λ (r : List ℕ). r ++ number_if (nat_lt k end && nat_le b k) number) (before.told k)
-      ∙ (chain (row_at old k) (number_if (nat_lt k b && test k) number) (number_if (nat_lt k end && nat_le b k) number)
-      ∙ ap (λ (xs : List ℕ). row_at old k ++ xs) (by_place k (cases_lt k b))));
+pub closing_next : (numbers : List ℕ) (number from i begun : ℕ) (opened : List ℕ) (old rows : List (List ℕ)) (row new : List ℕ) → AreClosed numbers number from i opened old rows → from ≤ i → i < length rows
+    → row ≡ slice_index_or rows i row → begun ≡ slice_index_or opened i 0 → new ≡ row ++ slice_range numbers begun number → AreClosed numbers number from (i + 1) opened old (slice_set rows i new)
+closing_next numbers number from i begun opened old rows row new before above room read read_opened more = record {
+  height = length-set rows i new ∙ before.height;
+  inside = λ k from_k below. elim (cases_lt k i) [
+    | inl earlier ↦ ap row_in (get_set_other rows i k new (λ same. omega (arith, earlier, same))) ∙ before.inside k from_k earlier
+    | inr late ↦ let here : k ≡ i = omega (arith, late, below) in subst (λ (n : ℕ). row_at (slice_set rows i new) n ≡ row_at old n ++ slice_range numbers (slice_index_or opened n 0) number) (sym here)
+        (ap row_in (get_set_same rows i new room)
+        ∙ (more
+        ∙ ap2 (λ (r : List ℕ) (n : ℕ). r ++ slice_range numbers n number) (sym (row_read_at rows i row room read) ∙ before.outside i (inr (omega arith))) read_opened))
+  ];
+  outside = λ k out. elim out [
+    | inl low ↦ ap row_in (get_set_other rows i k new (λ same. omega (arith, low, same, above))) ∙ before.outside k (inl low)
+    | inr high ↦ ap row_in (get_set_other rows i k new (λ same. omega (arith, high, same))) ∙ before.outside k (inr (omega (arith, high)))
+  ];
 }
-  where
-    by_end : (k : ℕ) → b ≤ k → (c : Bool) → nat_lt k end ≡ c → number_if (c && true) number ≡ number_if (c && test k) number
-    by_end k above true is = ap (λ (c : Bool). number_if c number) (sym (same k above (ltb-true k end is) ∙ passed))
-    by_end k above false is = refl
 
-    by_place : (k : ℕ) → (k < b) ⊎ (b ≤ k) → number_if (nat_lt k b && test k) number ++ number_if (nat_lt k end && nat_le b k) number ≡ number_if (nat_lt k end && test k) number
-    by_place k (inl below) =
-        let unread : nat_le b k ≡ false = never_true (nat_le b k) (λ is. let above : b ≤ k = leb-true b k is in absurd (omega (arith, below, above))) in
-        ap2 (λ (c d : Bool). number_if (c && test k) number ++ number_if (nat_lt k end && d) number) (lt-ltb k b below) unread
-        ∙ (ap (λ (c : Bool). number_if (test k) number ++ number_if c number) (and_false (nat_lt k end))
-        ∙ (nothing_after (number_if (test k) number)
-        ∙ ap (λ (c : Bool). number_if (c && test k) number) (sym (lt-ltb k end (omega (arith, below, order))))))
-    by_place k (inr above) =
-        let past : nat_lt k b ≡ false = never_true (nat_lt k b) (λ is. let below : k < b = ltb-true k b is in absurd (omega (arith, below, above))) in
-        ap2 (λ (c d : Bool). number_if (c && test k) number ++ number_if (nat_lt k end && d) number) past (le-leb b k above)
-        ∙ by_end k above (nat_lt k end) refl
+pub not_false : (b : Bool) → not b ≡ false → b ≡ true
+not_false true is = refl
+not_false false is = absurd (cc)
 
-pub rows_passed : (test : ℕ → Bool) (on : Bool) (b end number : ℕ) (old rows : List (List ℕ)) → RowsAdded b test number old rows → TellsTheSame test on b end → on ≡ false → b ≤ end → RowsAdded end test number old rows
-rows_passed test on b end number old rows before same failed order = record {
+-- a row goes on as it is, where this number passes as the last one did
+row_kept : (test : ℕ → Bool) (a from : ℕ) (last this : Bool) (row : List ℕ) → IsRowUpTo test a last row from → test a ≡ this → last ≡ this → IsRowUpTo test (suc a) this row from
+row_kept test a from last this row is here same = record {
+  whole = λ off. is.whole (same ∙ off) ∙ sym (which_more a (suc a) test (omega arith) (λ k above below. let at : k ≡ a = omega (arith, above, below) in ap test at ∙ (here ∙ off)));
+  begun = λ on. is.begun (same ∙ on);
+  earlier = λ on. let as_was = is.earlier (same ∙ on) in omega (arith, as_was);
+  all = λ on k above below. elim (cases_lt k a) [
+    | inl earlier ↦ is.all (same ∙ on) k above earlier
+    | inr late ↦ let at : k ≡ a = omega (arith, late, below) in ap test at ∙ (here ∙ on)
+  ];
+}
+
+-- a row is opened, where this number passes and the last one didn't
+row_opened : (test : ℕ → Bool) (a from : ℕ) (last this : Bool) (row : List ℕ) (opened : ℕ) → IsRowUpTo test a last row from → test a ≡ this → last ≡ false → this ≡ true → opened ≡ a → IsRowUpTo test (suc a) this row opened
+row_opened test a from last this row opened is here off on at = record {
+  whole = λ no. absurd (clash this on no);
+  begun = λ yes. is.whole off ∙ ap (λ (n : ℕ). which_below n test) (sym at);
+  earlier = λ yes. omega (arith, at);
+  all = λ yes k above below. let same : k ≡ a = omega (arith, above, below, at) in ap test same ∙ (here ∙ on);
+}
+
+-- a row is closed, where this number doesn't pass and the last one did
+row_closed : (test : ℕ → Bool) (a from n : ℕ) (last this : Bool) (numbers row new : List ℕ) → IsRowUpTo test a last row from → test a ≡ this → last ≡ true → this ≡ false → a ≤ n → numbers ≡ numbers_below n → new ≡ row ++ slice_range numbers from a
+    → IsRowUpTo test (suc a) this new from
+row_closed test a from n last this numbers row new is here on off room numbers_are more = record {
+  whole = λ no. passing_stretch test true n from a numbers row new (is.begun on) (is.all on) refl (is.earlier on) room numbers_are more
+      ∙ sym (which_more a (suc a) test (omega arith) (λ k above below. let at : k ≡ a = omega (arith, above, below) in ap test at ∙ (here ∙ off)));
+  begun = λ yes. absurd (clash this yes off);
+  earlier = λ yes. absurd (clash this yes off);
+  all = λ yes. absurd (clash this yes off);
+}
+
+row_as_was : (test : ℕ → Bool) (a from other : ℕ) (on : Bool) (row new : List ℕ) → IsRowUpTo test a on row from → new ≡ row → other ≡ from → IsRowUpTo test a on new other
+row_as_was test a from other on row new is same_row same_from = subst (λ (r : List ℕ). IsRowUpTo test a on r other) (sym same_row) (subst (IsRowUpTo test a on row) (sym same_from) is)
+
+-- the rows up to the end of a stretch
+rows_next : (plan : PlanOutline) (count a b end : ℕ) (rows new : List (List ℕ)) (opened others : List ℕ) → AreRowsAt plan count a b rows opened → b ≤ end → length new ≡ length rows → length others ≡ length opened
+    → ((k : ℕ) → (k < b) ⊎ (end ≤ k) → row_at new k ≡ row_at rows k) → ((k : ℕ) → (k < b) ⊎ (end ≤ k) → slice_index_or others k 0 ≡ slice_index_or opened k 0)
+    → AreRowsUpTo plan (suc a) (is_before plan a) b end new others → AreRowsAt plan count a end new others
+rows_next plan count a b end rows new opened others before order height width same_rows same_opened inside = record {
+  height = height ∙ before.height;
+  width = width ∙ before.width;
+  done = λ k from below. elim (cases_lt k b) [
+    | inl earlier ↦ row_as_was (λ x. is_before plan x k) (suc a) (slice_index_or opened k 0) (slice_index_or others k 0) (is_before plan a k) (row_at rows k) (row_at new k) (before.done k from earlier) (same_rows k (inl earlier)) (same_opened k (inl earlier))
+    | inr late ↦ inside k late below
+  ];
+  left = λ k from below. row_as_was (λ x. is_before plan x k) a (slice_index_or opened k 0) (slice_index_or others k 0) (is_after_last plan a k) (row_at rows k) (row_at new k)
+      (before.left k (omega (arith, order, from)) below) (same_rows k (inr from)) (same_opened k (inr from));
+}
+
+pub rows_kept : (plan : PlanOutline) (count a b end : ℕ) (last this : Bool) (rows : List (List ℕ)) (opened : List ℕ) → AreRowsAt plan count a b rows opened → b ≤ end → end ≤ count
+    → TellsTheSame (is_after_last plan a) last b end → TellsTheSame (is_before plan a) this b end → last ≡ this → AreRowsAt plan count a end rows opened
+rows_kept plan count a b end last this rows opened before order room last_is this_is same =
+    rows_next plan count a b end rows rows opened opened before order refl refl (λ k out. refl) (λ k out. refl)
+    (λ k from below. row_kept (λ x. is_before plan x k) a (slice_index_or opened k 0) (is_after_last plan a k) (is_before plan a k) (row_at rows k)
+    (before.left k from (omega (arith, below, room))) refl (last_is k from below ∙ (same ∙ sym (this_is k from below))))
+
+pub rows_opened : (plan : PlanOutline) (count a b end : ℕ) (last this : Bool) (rows : List (List ℕ)) (opened others : List ℕ) → AreRowsAt plan count a b rows opened → b ≤ end → end ≤ count
+    → TellsTheSame (is_after_last plan a) last b end → TellsTheSame (is_before plan a) this b end → last ≡ false → this ≡ true → AreSet a b end opened others → AreRowsAt plan count a end rows others
+rows_opened plan count a b end last this rows opened others before order room last_is this_is off on set =
+    rows_next plan count a b end rows rows opened others before order refl set.height (λ k out. refl) set.outside
+    (λ k from below. row_opened (λ x. is_before plan x k) a (slice_index_or opened k 0) (is_after_last plan a k) (is_before plan a k) (row_at rows k) (slice_index_or others k 0)
+    (before.left k from (omega (arith, below, room))) refl (last_is k from below ∙ off) (this_is k from below ∙ on) (set.inside k from below))
+
+pub rows_closed : (plan : PlanOutline) (count a b end : ℕ) (last this : Bool) (numbers : List ℕ) (rows new : List (List ℕ)) (opened : List ℕ) → AreRowsAt plan count a b rows opened → b ≤ end → end ≤ count
+    → TellsTheSame (is_after_last plan a) last b end → TellsTheSame (is_before plan a) this b end → last ≡ true → this ≡ false → a ≤ count → numbers ≡ numbers_below count → AreClosed numbers a b end opened rows new → AreRowsAt plan count a end new opened
+rows_closed plan count a b end last this numbers rows new opened before order room last_is this_is on off within numbers_are closed =
+    rows_next plan count a b end rows new opened opened before order closed.height refl closed.outside (λ k out. refl)
+    (λ k from below. row_closed (λ x. is_before plan x k) a (slice_index_or opened k 0) count (is_after_last plan a k) (is_before plan a k) numbers (row_at rows k) (row_at new k)
+    (before.left k from (omega (arith, below, room))) refl (last_is k from below ∙ on) (this_is k from below ∙ off) within numbers_are (closed.inside k from below))
+
+-- where rows are open that are to be closed, they were opened earlier
+pub opened_earlier : (plan : PlanOutline) (count a b end : ℕ) (last : Bool) (rows : List (List ℕ)) (opened : List ℕ) → AreRowsAt plan count a b rows opened → end ≤ count → TellsTheSame (is_after_last plan a) last b end → last ≡ true
+    → (k : ℕ) → b ≤ k → k < end → slice_index_or opened k 0 ≤ a
+opened_earlier plan count a b end last rows opened before room last_is on k from below = (before.left k from (omega (arith, below, room))).earlier (last_is k from below ∙ on)
+
+-- all rows at one number are those at the start of the next one
+pub rows_over : (plan : PlanOutline) (count a b : ℕ) (rows : List (List ℕ)) (opened : List ℕ) → AreRowsAt plan count a b rows opened → count ≤ b → AreRowsAt plan count (a + 1) 0 rows opened
+rows_over plan count a b rows opened before whole = subst (λ (n : ℕ). AreRowsAt plan count n 0 rows opened) (sym (add-one a)) (record {
   height = before.height;
-  told = λ k. before.told k ∙ ap (λ (c : Bool). row_at old k ++ number_if c number) (by_place k (cases_lt k b));
+  width = before.width;
+  done = λ k from below. absurd (omega (arith, below));
+  left = λ k from below. before.done k from (omega (arith, below, whole));
+})
+
+pub rows_start : (outline : Outline) (rows : List (List ℕ)) (opened : List ℕ) (count : ℕ) → count ≡ atoms_found outline → length rows ≡ count → ((k : ℕ) → row_at rows k ≡ []) → opened ≡ numbers_below count
+    → AreRowsAt (plan_seen outline) (atoms_found outline) 0 0 rows opened
+rows_start outline rows opened count many height none are = record {
+  height = height ∙ many;
+  width = ap length are ∙ (so_many count ∙ many);
+  done = λ k from below. absurd (omega (arith, below));
+  left = λ k from below. record {
+    whole = λ off. none k;
+    begun = λ on. absurd (cc);
+    earlier = λ on. absurd (cc);
+    all = λ on. absurd (cc);
+  };
+}
+
+pub rows_end : (outline : Outline) (a : ℕ) (rows : List (List ℕ)) (opened : List ℕ) → AreRowsAt (plan_seen outline) (atoms_found outline) (a + 1) 0 rows opened → a ≡ atoms_found outline
+    → AreRows (atoms_found outline) (λ b. which_below (atoms_found outline) (λ a. is_before (plan_seen outline) a b)) rows
+rows_end outline a rows opened is last = record {
+  height = is.height;
+  told = λ k below.
+      let rows_are = subst (λ (n : ℕ). AreRowsAt (plan_seen outline) (atoms_found outline) n 0 rows opened) (add-one a) is in
+      let row_is = rows_are.left k (omega arith) below in
+      row_is.whole (before_none k)
+      ∙ (which_more a (suc a) (λ x. is_before (plan_seen outline) x k) (omega arith) (λ x above under. let at : x ≡ a = omega (arith, above, under) in ap (λ (n : ℕ). is_before (plan_seen outline) n k) at ∙ before_none k)
+      ∙ ap (λ (n : ℕ). which_below n (λ x. is_before (plan_seen outline) x k)) last);
 }
   where
-    by_end : (k : ℕ) → b ≤ k → (c : Bool) → nat_lt k end ≡ c → c && test k ≡ false
-    by_end k above true is = same k above (ltb-true k end is) ∙ failed
-    by_end k above false is = refl
-
-    by_place : (k : ℕ) → (k < b) ⊎ (b ≤ k) → nat_lt k b && test k ≡ nat_lt k end && test k
-    by_place k (inl below) = ap (λ (c : Bool). c && test k) (lt-ltb k b below ∙ sym (lt-ltb k end (omega (arith, below, order))))
-    by_place k (inr above) =
-        let past : nat_lt k b ≡ false = never_true (nat_lt k b) (λ is. let below : k < b = ltb-true k b is in absurd (omega (arith, below, above))) in
-        ap (λ (c : Bool). c && test k) past ∙ sym (by_end k above (nat_lt k end) refl)
-
--- the rows of those before, by each number that comes after
-pub earlier_start : (count : ℕ) (test : ℕ → ℕ → Bool) (rows : List (List ℕ)) → length rows ≡ count → ((k : ℕ) → row_at rows k ≡ []) → AreRows count (λ b. which_below 0 (λ a. test a b)) rows
-earlier_start count test rows height none = record { height = height; told = λ k below. none k }
-
-pub earlier_next : (count a : ℕ) (test : ℕ → ℕ → Bool) (rows new : List (List ℕ)) → AreRows count (λ b. which_below a (λ x. test x b)) rows → RowsAdded count (test a) a rows new → AreRows count (λ b. which_below (a + 1) (λ x. test x b)) new
-earlier_next count a test rows new before more = record {
-  height = more.height ∙ before.height;
-  told = λ k below. more.told k
-      ∙ (ap2 (λ (r : List ℕ) (b : Bool). r ++ number_if (b && test a k) a) (before.told k below) (lt-ltb k count below)
-      ∙ ap (λ (n : ℕ). which_below n (λ x. test x k)) (sym (add-one a)));
-}
-
-pub earlier_all : (count a : ℕ) (test : ℕ → ℕ → Bool) (rows : List (List ℕ)) → AreRows count (λ b. which_below a (λ x. test x b)) rows → a ≡ count → AreRows count (λ b. which_below count (λ x. test x b)) rows
-earlier_all count a test rows is same = subst (λ (n : ℕ). AreRows count (λ b. which_below n (λ x. test x b)) rows) same is
+    before_none : (k : ℕ) → is_before (plan_seen outline) a k ≡ false
+    before_none k = past_is_before_none outline a 0 (suc k) (omega (arith, last)) k (omega arith) (omega arith)
 
 same_rows : (xs ys : List (List ℕ)) → length xs ≡ length ys → ((k : ℕ) → k < length xs → row_at xs k ≡ row_at ys k) → xs ≡ ys
 same_rows [] [] same each = refl

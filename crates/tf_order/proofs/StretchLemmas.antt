@@ -1,5 +1,5 @@
 -- The paths of atoms ascend, and atoms that stand side by side are alike.
-use Rattle.std.proofs.Common.{◌≡◌, ℕ, zero, suc, ◌+◌, ◌<◌, ◌≤◌, List, [], ◌∷◌, ◌++◌, length, map, Bool, true, ◌&&◌, ◌⊎◌, Option, Some, None, refl, sym, ap, subst, ◌∙◌, add-one, inl, inr, arith, eqb-true, eq-eqb, slice_get, slice_index_or}
+use Rattle.std.proofs.Common.{◌≡◌, ◌≢◌, ◌-◌, false, ℕ, zero, suc, ◌+◌, ◌<◌, ◌≤◌, List, [], ◌∷◌, ◌++◌, length, map, Bool, true, ◌&&◌, ◌⊎◌, Option, Some, None, refl, sym, ap, subst, ◌∙◌, add-one, inl, inr, arith, eqb-true, eq-eqb, slice_get, slice_index_or}
 use Rattle.std.specs.Prelude.{IfSome, nat_eq, if◌then◌else◌}
 use Rattle.std.proofs.lemmas.Bool.{cases_lt}
 use Rattle.std.proofs.lemmas.List.{length-map}
@@ -8,12 +8,13 @@ use Rattle.tf_flow.specs.declared.paths.Turn.{Turn}
 use Rattle.tf_flow.specs.Outline.{Atom, atoms_of, atoms_among, retry_atoms, enter, flow_count}
 use Rattle.tf_flow.specs.Tree.{Tree, Trees, task, flow, no_trees, tree}
 use Rattle.tf_model.specs.Before.{Flow, item_before, turn_before, path_before, path_at, same_place}
-use Rattle.tf_model.specs.Plan.{is_before, path}
+use Rattle.tf_model.specs.Plan.{Outline as PlanOutline, is_before, path}
 use Rattle.tf_numbers.proofs.EquationLemmas.{ap2}
 use Rattle.tf_flow.specs.declared.listing.Outline.{Outline}
 use Rattle.tf_flow.specs.Listing.{shown_atom, shown_atoms}
-use Rattle.tf_order.specs.Stretches.{IsEarlierPlace, IsPathUpTo, IsAscending, Agree, IsUpToItem, GoesAlong, IsSteady, IsAlike, TellsTheSame}
-use Rattle.tf_order.specs.Tables.{plan_seen, atoms_found}
+use Rattle.tf_order.specs.Stretches.{IsEarlierPlace, IsPathUpTo, IsAscending, Agree, IsUpToItem, GoesAlong, IsSteady, IsAlike, IsAlongUpTo, TellsTheSame}
+use Rattle.tf_order.specs.Tables.{plan_seen, atoms_found, is_after_last}
+use Rattle.tf_order.proofs.GraphLemmas.{no_later}
 
 -- ---- the paths of a tree's atoms ascend
 
@@ -262,21 +263,17 @@ turns_same x y on same is place = (same, place_same x.item y.item (sym is ∙ pl
 
 -- ---- atoms that go along
 
--- the atoms after b and before the end go along with it
-abbrev pub AllAlong : Outline → ℕ → ℕ → ℕ → ℕ → Type 0
-AllAlong outline b turns most end = (k : ℕ) → b < k → k < end → GoesAlong turns most (path_at (shown_atoms outline.atoms.items) b) (path_at (shown_atoms outline.atoms.items) k)
-
-pub along_start : (outline : Outline) (b turns most end : ℕ) → end ≡ b + 1 → AllAlong outline b turns most end
+pub along_start : (outline : Outline) (b turns most end : ℕ) → end ≡ b + 1 → IsAlongUpTo turns most (shown_atoms outline.atoms.items) b end
 along_start outline b turns most end is k above below = absurd (omega (arith, is, above, below))
 
-pub along_more : (outline : Outline) (b turns most end middle : ℕ) → IsAscending (plan_seen outline) → AllAlong outline b turns most end → b < end → end ≤ middle → middle < atoms_found outline
-    → GoesAlong turns most (path_at (shown_atoms outline.atoms.items) b) (path_at (shown_atoms outline.atoms.items) middle) → AllAlong outline b turns most (middle + 1)
+pub along_to : (outline : Outline) (b turns most middle end : ℕ) → IsAscending (plan_seen outline) → middle < atoms_found outline
+    → GoesAlong turns most (path_at (shown_atoms outline.atoms.items) b) (path_at (shown_atoms outline.atoms.items) middle) → end ≡ middle + 1 → IsAlongUpTo turns most (shown_atoms outline.atoms.items) b end
 unfolding plan_seen
-along_more outline b turns most end middle ascending before behind over within along k above below =
+along_to outline b turns most middle end ascending within along is k above below =
     let room : middle < length (shown_atoms outline.atoms.items) = subst (λ (n : ℕ). middle < n) (sym (length-map outline.atoms.items shown_atom)) within in
     along_between turns most (path_at (shown_atoms outline.atoms.items) b) (path_at (shown_atoms outline.atoms.items) k) (path_at (shown_atoms outline.atoms.items) middle)
-    (ascending b k (omega (arith, above)) (omega (arith, below, room)))
-    (ascending k middle (omega (arith, below)) room)
+    (ascending b k (omega (arith, above)) (omega (arith, below, is, room)))
+    (ascending k middle (omega (arith, below, is)) room)
     along
 
 -- ---- a stretch
@@ -288,7 +285,7 @@ pub before_seen : (outline : Outline) (a b : ℕ) (v w : List Turn) (on : Bool) 
 unfolding is_before plan_seen
 before_seen outline a b v w on v_is w_is is = is ∙ ap2 (path_before (plan_seen outline).flows) v_is w_is
 
-pub stretch_along : (outline : Outline) (a b turns most end : ℕ) (on : Bool) (v w : List Turn) → IsAscending (plan_seen outline) → AllAlong outline b turns most end → end ≤ atoms_found outline
+pub stretch_along : (outline : Outline) (a b turns most end : ℕ) (on : Bool) (v w : List Turn) → IsAscending (plan_seen outline) → IsAlongUpTo turns most (shown_atoms outline.atoms.items) b end → end ≤ atoms_found outline
     → on ≡ is_before (plan_seen outline) a b → v ≡ path_at (shown_atoms outline.atoms.items) a → w ≡ path_at (shown_atoms outline.atoms.items) b → IsAlike (plan_seen outline).flows turns v w most
     → TellsTheSame (is_before (plan_seen outline) a) on b end
 unfolding plan_seen is_before
@@ -301,3 +298,23 @@ stretch_along outline a b turns most end on v w ascending along ends is v_is w_i
           alike_there (path_at (shown_atoms outline.atoms.items) k) (ascending b k from room) (along k above to) ∙ sym is
       | inr below ↦ let here : k ≡ b = omega (arith, below, from) in ap (λ (n : ℕ). is_before (plan_seen outline) a n) here ∙ sym is
     ]
+
+-- ---- the atom that stands before another in tree order
+
+pub none_is_last : (plan : PlanOutline) (a end : ℕ) (b : ℕ) → a ≡ 0 → TellsTheSame (is_after_last plan a) false b end
+none_is_last plan a end b first k from to = ap (λ (n : ℕ). is_after_last plan n k) first
+
+last_is : (plan : PlanOutline) (a k : ℕ) → a ≢ 0 → is_after_last plan a k ≡ is_before plan (a - 1) k
+last_is plan zero k some = absurd (some refl)
+last_is plan (suc a) k some = let same : a ≡ suc a - 1 = omega arith in ap (λ (n : ℕ). is_before plan n k) same
+
+pub last_told : (plan : PlanOutline) (a b end : ℕ) (on : Bool) → a ≢ 0 → TellsTheSame (is_after_last plan a) on b end → TellsTheSame (is_before plan (a - 1)) on b end
+last_told plan a b end on some told k from to = sym (last_is plan a k some) ∙ told k from to
+
+pub told_last : (plan : PlanOutline) (a b end : ℕ) (on : Bool) → a ≢ 0 → TellsTheSame (is_before plan (a - 1)) on b end → TellsTheSame (is_after_last plan a) on b end
+told_last plan a b end on some told k from to = last_is plan a k some ∙ told k from to
+
+-- a number that no atom has is before none
+pub past_is_before_none : (outline : Outline) (a b end : ℕ) → atoms_found outline ≤ a → TellsTheSame (is_before (plan_seen outline) a) false b end
+unfolding plan_seen
+past_is_before_none outline a b end past k from to = no_later (plan_seen outline) a k (subst (λ (n : ℕ). n ≤ a) (sym (length-map outline.atoms.items shown_atom)) past)

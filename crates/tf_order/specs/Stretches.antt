@@ -1,7 +1,8 @@
 -- Atoms that stand side by side in tree order, and are all after another or all not.
 use Rattle.std.specs.Prelude.{◌≡◌, ℕ, zero, suc, ◌<◌, ◌≤◌, List, [], ◌∷◌, Bool, false, ◌&&◌, ◌⊎◌, Option, None, Some, nat_eq, nat_lt}
 use Rattle.tf_flow.specs.declared.paths.Turn.{Turn}
-use Rattle.tf_model.specs.Before.{Flow, path_before}
+use Rattle.tf_flow.specs.Outline.{Atom}
+use Rattle.tf_model.specs.Before.{Flow, path_at, path_before}
 use Rattle.tf_model.specs.Plan.{Outline, count, path}
 
 -- in a flow the first place stands earlier than the second: the retry controller's before the items'
@@ -40,6 +41,10 @@ GoesAlong turns most [] ys = ⊥
 GoesAlong turns most (x ∷ xs) [] = ⊥
 GoesAlong zero most (x ∷ xs) (y ∷ ys) = (x.flow ≡ y.flow) × IsUpToItem most y.item
 GoesAlong (suc turns) most (x ∷ xs) (y ∷ ys) = (x.flow ≡ y.flow) × (x.item ≡ y.item) × GoesAlong turns most xs ys
+
+-- the paths of the atoms after b and before the end go along with that of b
+abbrev pub IsAlongUpTo : ℕ → ℕ → List Atom → ℕ → ℕ → Type 0
+IsAlongUpTo turns most atoms b end = (k : ℕ) → b < k → k < end → GoesAlong turns most (path_at atoms b) (path_at atoms k)
 
 -- item u isn't among those from v up to the last, and the test tells the same of all of these
 abbrev pub IsSteady : ℕ → (ℕ → Bool) → ℕ → ℕ → Type 0

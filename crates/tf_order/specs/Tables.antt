@@ -1,13 +1,13 @@
 -- What is found of a plan while it is compiled: its flows as they are arranged, their faults, and rows of numbers.
 use Rattle.tf_flow.specs.Paths.{shown_part}
-use Rattle.std.specs.Prelude.{◌≡◌, ℕ, ◌+◌, ◌<◌, List, [], ◌∷◌, ◌++◌, Bool, true, false, ◌&&◌, Option, Some, None, length, drop, map, nat_eq, nat_lt, slice_get, if◌then◌else◌}
+use Rattle.std.specs.Prelude.{◌≡◌, ℕ, zero, suc, ◌+◌, ◌<◌, ◌≤◌, ◌⊎◌, List, [], ◌∷◌, ◌++◌, Bool, true, false, ◌&&◌, Option, Some, None, length, drop, map, nat_eq, slice_get, slice_index_or, slice_range, if◌then◌else◌}
 use Rattle.tf_flow.specs.declared.nested.FlowKind.{FlowKind}
 use Rattle.tf_flow.specs.declared.nested.FlowKind.TheVariants as kind
 use Rattle.tf_numbers.specs.Numbers.{numbers_below, has_number, which_below}
 use Rattle.tf_flow.specs.Outline.{Atom, FlowPlace, is_task_part}
 use Rattle.tf_model.specs.Before.{Flow, flow_at, no_flow, arranged, provides_at}
 use Rattle.tf_model.specs.Readiness.{last_item, same_flow}
-use Rattle.tf_model.specs.Plan.{CompileRefusal, refusal_among, Outline as PlanOutline, outline_with, count, last_flow}
+use Rattle.tf_model.specs.Plan.{CompileRefusal, refusal_among, Outline as PlanOutline, outline_with, count, is_before, last_flow}
 use Rattle.tf_order.specs.declared.arranged.Arranged.{Arranged}
 use Rattle.tf_order.specs.declared.faults.CompileFault.{CompileFault}
 use Rattle.tf_order.specs.declared.index.NameIndex.{NameIndex}
@@ -21,6 +21,7 @@ use Rattle.tf_links.specs.Links.{leads}
 use Rattle.tf_order.specs.Looked.{told_in}
 use Rattle.tf_flow.specs.Listing.{shown_atoms, shown_levels}
 use Rattle.tf_order.specs.Rows.{row_at}
+use Rattle.tf_order.specs.Stretches.{TellsTheSame}
 use Rattle.tf_order.specs.Paths.{flow_of_turn, item_of_turn}
 
 -- the fault at a place, where there is such a place
@@ -82,10 +83,43 @@ pub record RowAdded (at : ℕ) (more : List ℕ) (old new : List (List ℕ)) : T
   pub height : length new ≡ length old
   pub told : (k : ℕ) → row_at new k ≡ (if nat_eq at k then row_at old k ++ more else row_at old k)
 
--- each row below a number that passes the test has a number more at its end
-pub record RowsAdded (below : ℕ) (test : ℕ → Bool) (number : ℕ) (old new : List (List ℕ)) : Type 0 where
+-- the row has the numbers below a that pass the test; or it is open: it has those below the number at which it
+-- was opened, and all from there on up to before a pass
+pub record IsRowUpTo (test : ℕ → Bool) (a : ℕ) (on : Bool) (row : List ℕ) (from : ℕ) : Type 0 where
+  pub whole : on ≡ false → row ≡ which_below a test
+  pub begun : on ≡ true → row ≡ which_below from test
+  pub earlier : on ≡ true → from ≤ a
+  pub all : on ≡ true → TellsTheSame test true from a
+
+-- the rows from one up to before the end have those before them among the atoms below a, or are open
+abbrev pub AreRowsUpTo : PlanOutline → ℕ → (ℕ → Bool) → ℕ → ℕ → List (List ℕ) → List ℕ → Type 0
+AreRowsUpTo plan a on first end rows opened = (k : ℕ) → first ≤ k → k < end → IsRowUpTo (λ x. is_before plan x k) a (on k) (row_at rows k) (slice_index_or opened k 0)
+
+-- the atom that stands before a in tree order is before k; none stands before the first
+abbrev pub is_after_last : PlanOutline → ℕ → ℕ → Bool
+is_after_last plan zero k = false
+is_after_last plan (suc a) k = is_before plan a k
+
+-- the rows below b, of so many, have those up to the atom a, and the others those up to before it; those are open
+-- that the last one comes before
+pub record AreRowsAt (plan : PlanOutline) (count a b : ℕ) (rows : List (List ℕ)) (opened : List ℕ) : Type 0 where
+  pub height : length rows ≡ count
+  pub width : length opened ≡ count
+  pub done : AreRowsUpTo plan (suc a) (is_before plan a) 0 b rows opened
+  pub left : AreRowsUpTo plan a (is_after_last plan a) b count rows opened
+
+-- the numbers from one place up to before the end are this one, and the others stay
+pub record AreSet (number from end : ℕ) (old new : List ℕ) : Type 0 where
   pub height : length new ≡ length old
-  pub told : (k : ℕ) → row_at new k ≡ row_at old k ++ number_if (nat_lt k below && test k) number
+  pub inside : (k : ℕ) → from ≤ k → k < end → slice_index_or new k 0 ≡ number
+  pub outside : (k : ℕ) → (k < from) ⊎ (end ≤ k) → slice_index_or new k 0 ≡ slice_index_or old k 0
+
+-- each row from one up to before the end has at its end the numbers from where it was opened up to before this one, and
+-- the other rows stay
+pub record AreClosed (numbers : List ℕ) (number from end : ℕ) (opened : List ℕ) (old new : List (List ℕ)) : Type 0 where
+  pub height : length new ≡ length old
+  pub inside : (k : ℕ) → from ≤ k → k < end → row_at new k ≡ row_at old k ++ slice_range numbers (slice_index_or opened k 0) number
+  pub outside : (k : ℕ) → (k < from) ⊎ (end ≤ k) → row_at new k ≡ row_at old k
 
 -- a row for each of so many numbers
 pub record AreRows (count : ℕ) (row : ℕ → List ℕ) (rows : List (List ℕ)) : Type 0 where

@@ -3,34 +3,26 @@ ghost use Rattle.tf_flow.specs.Plan.{PlanValue};
 ghost use Rattle.tf_model.specs.Plan.{outline_of, is_before};
 ghost use Rattle.tf_order.specs.Graph.{IsGraphOf, predecessors_of, successors_of, direct_tasks_of, standing_of_plan};
 
-use crate::rows::{Row, row_at, row_sets};
+use crate::rows::{Row, is_listed, row_at};
 use std::alloc::Global;
 use std::marker::Model;
-use tf_links::{Bits, has_in};
 use tf_values::Memory;
 
 /// The compiled order of a plan. Contracts see what it tells, and that it is a plan's says `IsGraphOf`.
-/// The successors are kept as sets too, so that one look tells what is before what.
 #[derive(Drop)]
 pub struct Graph {
     predecessors: Vec<Row>,
     successors: Vec<Row>,
-    later: Vec<Bits>,
     direct_tasks: Vec<Row>,
     standing: Vec<u16>,
 }
 
 impl Model for Graph {
-    ghost use Rattle.std.specs.Prelude.{◌≡◌, ℕ};
     ghost use Rattle.tf_order.specs.Graph.{GraphValue};
-    ghost use Rattle.tf_links.specs.Links.{leads};
-    ghost use Rattle.tf_order.specs.Rows.{is_in_row};
 
     ghost Value = { GraphValue };
 
     ghost view = { λ graph. record { predecessors = graph.predecessors.items; successors = graph.successors.items; direct_tasks = graph.direct_tasks.items; standing = graph.standing.items } };
-
-    ghost invariant = { λ graph. (a b : ℕ) → leads graph.later.items a b ≡ is_in_row graph.successors.items a b };
 }
 
 impl Graph {
@@ -49,22 +41,19 @@ impl Graph {
           standing = standing.items;
         }) }
     {
-        let later = row_sets(alloc, &successors)?;
         Ok(Graph {
             predecessors,
             successors,
-            later,
             direct_tasks,
             standing,
         })
     }
 
     /// Whether atom `a` is before atom `b`. A number that no atom has is before none and after none.
-    #[tactic(auto, using(crate::proofs::GraphLemmas::row_before))]
     pub fn is_before(&self, a: u16, b: u16) -> bool
         ensures { (plan : PlanValue) → IsGraphOf self.now plan → result ≡ is_before (outline_of plan) a b }
     {
-        has_in(&self.later, a as usize, b as usize)
+        is_listed(self.successors(a), b)
     }
 
     /// All atoms before `a`, ascending.

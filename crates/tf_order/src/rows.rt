@@ -1,8 +1,7 @@
-ghost use Rattle.std.specs.Prelude.{◌≡◌, ℕ, ◌<◌, ◌≤◌, List, [], ◌∷◌, true, ◌++◌, ◌&&◌, ◌||◌, nat_lt, nat_eq, length, IfOk, OnOk};
+ghost use Rattle.std.specs.Prelude.{◌≡◌, ℕ, ◌<◌, ◌≤◌, List, [], ◌∷◌, Bool, true, ◌++◌, length, IfOk, OnOk};
 ghost use Rattle.tf_numbers.specs.Numbers.{has_number, which_below};
 ghost use Rattle.tf_links.specs.Bits.{has, words_for};
-ghost use Rattle.tf_links.specs.Links.{leads};
-ghost use Rattle.tf_order.specs.Rows.{row_at, is_in_row};
+ghost use Rattle.tf_order.specs.Rows.{row_at};
 ghost use Rattle.tf_order.specs.Tables.{AllBelow};
 
 use std::alloc::Global;
@@ -78,40 +77,42 @@ pub fn empty_rows(alloc: Global, count: usize) -> Result<Vec<Row>, Memory>
     Ok(rows)
 }
 
-/// The rows as sets, so that one look tells whether a row has a number. Only numbers that have a row
-/// themselves are told.
-#[tactic(auto, using(crate::proofs::TableLemmas::sets_start, crate::proofs::TableLemmas::sets_more, crate::proofs::TableLemmas::sets_all))]
-pub fn row_sets(alloc: Global, rows: &[Row]) -> Result<Vec<Bits>, Memory>
-    ensures { IfOk result (λ sets. (a b : ℕ) → leads sets.items a b ≡ is_in_row rows.now a b) }
+/// Whether a number stands in an ascending row. In most rows the numbers stand side by side, so that the
+/// first of them tells the place of each.
+#[tactic(auto, using(crate::proofs::RowLemmas::first_is_past))]
+pub fn is_listed(row: &[u16], number: u16) -> bool
+    ensures { (count : ℕ) → (test : ℕ → Bool) → row.now ≡ which_below count test
+        → result ≡ has_number row.now number }
 {
-    let mut sets = Vec::new(alloc);
-    for row in rows {
-        sets.push(set_of(alloc, rows.len(), row.items())?)?;
+    let Some(first) = row.first() else {
+        return false;
+    };
+    if number < *first {
+        return false;
     }
-    Ok(sets)
+    if stands_at(row, (number - *first) as usize, number) {
+        return true;
+    }
+    is_found(row, number)
 }
 
-/// The numbers below the count as a set.
-#[tactic(auto, using(crate::proofs::TableLemmas::set_start, crate::proofs::TableLemmas::set_more, crate::proofs::TableLemmas::set_all))]
-fn set_of(alloc: Global, count: usize, numbers: &[u16]) -> Result<Bits, Memory>
-    ensures { IfOk result (λ set. (k : ℕ) → has set k ≡ (nat_lt k count && has_number numbers.now k)) }
+/// Whether a number stands at this place of a row.
+#[tactic(auto, using(crate::proofs::RowLemmas::listed_at))]
+fn stands_at(row: &[u16], place: usize, number: u16) -> bool
+    ensures { result ≡ true → has_number row.now number ≡ true }
 {
-    let mut set = Bits::new(alloc, count)?;
-    for number in numbers {
-        insert_below(count, *number as usize, &mut set);
-    }
-    Ok(set)
+    place < row.len() && row[place] == number
 }
 
-/// Adds a number, where it is below the count.
-#[tactic(auto, using(crate::proofs::TableLemmas::inserted_below, crate::proofs::TableLemmas::past_below))]
-fn insert_below(count: usize, number: usize, set: &mut Bits)
-    requires wide { length set.old ≡ words_for count }
-    ensures wide { length set.new ≡ words_for count }
-    ensures set { (k : ℕ) → has set.new k ≡ (has set.old k || (nat_lt k count && nat_eq k number)) }
+/// Whether a number is found in an ascending row by halving.
+#[tactic(auto, using(crate::proofs::RowLemmas::found_there, crate::proofs::RowLemmas::found_nowhere))]
+fn is_found(row: &[u16], number: u16) -> bool
+    ensures { (count : ℕ) → (test : ℕ → Bool) → row.now ≡ which_below count test
+        → result ≡ has_number row.now number }
 {
-    if number < count {
-        set.insert(number);
+    match row.binary_search(&number) {
+        Ok(_) => true,
+        Err(_) => false,
     }
 }
 

@@ -3,8 +3,8 @@ ghost use Rattle.tf_model.specs.Before.{Flow, same_place, path_at};
 ghost use Rattle.tf_model.specs.Plan.{is_before};
 ghost use Rattle.tf_order.specs.Arranged.{ShowsFlows};
 ghost use Rattle.tf_flow.specs.Listing.{shown_atoms};
-ghost use Rattle.tf_order.specs.Stretches.{IsAscending, Agree, IsUpToItem, GoesAlong, IsAlike, TellsTheSame};
-ghost use Rattle.tf_order.specs.Tables.{plan_seen, atoms_found};
+ghost use Rattle.tf_order.specs.Stretches.{IsAscending, Agree, IsUpToItem, GoesAlong, IsAlike, IsAlongUpTo, TellsTheSame};
+ghost use Rattle.tf_order.specs.Tables.{plan_seen, atoms_found, is_after_last};
 
 use crate::arranged::{Arranged, is_path_before, last_item_alike};
 use tf_flow::{Outline, Turn};
@@ -17,15 +17,83 @@ pub struct Stretch {
     pub is_after: bool,
 }
 
-/// The atoms from `b` on that are after `a` if `b` is, and aren't if it isn't, as far as they are found
-/// without looking at each. The paths of atoms ascend, so the end is found by halving.
-#[tactic(auto, using(crate::proofs::StretchLemmas::stretch_alone, crate::proofs::StretchLemmas::stretch_along))]
-pub fn stretch_from(
+impl Stretch {
+    /// No atom.
+    pub fn none() -> Stretch
+        ensures { result ≡ record { end = 0; is_after = false } }
+    {
+        Stretch {
+            end: 0,
+            is_after: false,
+        }
+    }
+}
+
+/// A stretch from `b` on of those that the atom which stands before `a` in tree order is before, or of those
+/// that it isn't; the last one found, as long as it goes on.
+#[tactic(auto, using(crate::proofs::StretchLemmas::none_is_last, crate::proofs::StretchLemmas::last_told, crate::proofs::StretchLemmas::told_last))]
+pub fn stretch_of_last(
     outline: &Outline<'_>,
     table: &[Option<Arranged>],
     a: usize,
     b: usize,
+    found: Stretch,
 ) -> Stretch
+    requires shows { ShowsFlows table.now (plan_seen outline.now).flows }
+    requires ascending { IsAscending (plan_seen outline.now) }
+    requires few { atoms_found outline.now ≤ 1000 }
+    requires second { b < atoms_found outline.now }
+    requires ends { found.end ≤ atoms_found outline.now }
+    requires same { TellsTheSame (is_after_last (plan_seen outline.now) a) found.is_after b found.end }
+    ensures begins { b < result.end }
+    ensures ends { result.end ≤ atoms_found outline.now }
+    ensures same { TellsTheSame (is_after_last (plan_seen outline.now) a) result.is_after b result.end }
+{
+    if a == 0 {
+        return Stretch {
+            end: outline.atoms.len(),
+            is_after: false,
+        };
+    }
+    stretch_at(outline, table, a - 1, b, found)
+}
+
+/// A stretch from `b` on of those that `a` is before, or of those that it isn't; the last one found, as long
+/// as it goes on.
+#[tactic(auto, using(crate::proofs::StretchLemmas::past_is_before_none))]
+pub fn stretch_at(
+    outline: &Outline<'_>,
+    table: &[Option<Arranged>],
+    a: usize,
+    b: usize,
+    found: Stretch,
+) -> Stretch
+    requires shows { ShowsFlows table.now (plan_seen outline.now).flows }
+    requires ascending { IsAscending (plan_seen outline.now) }
+    requires few { atoms_found outline.now ≤ 1000 }
+    requires second { b < atoms_found outline.now }
+    requires ends { found.end ≤ atoms_found outline.now }
+    requires same { TellsTheSame (is_before (plan_seen outline.now) a) found.is_after b found.end }
+    ensures begins { b < result.end }
+    ensures ends { result.end ≤ atoms_found outline.now }
+    ensures same { TellsTheSame (is_before (plan_seen outline.now) a) result.is_after b result.end }
+{
+    if b < found.end {
+        return found;
+    }
+    if outline.atoms.len() <= a {
+        return Stretch {
+            end: outline.atoms.len(),
+            is_after: false,
+        };
+    }
+    stretch_from(outline, table, a, b)
+}
+
+/// The atoms from `b` on that are after `a` if `b` is, and aren't if it isn't, as far as they are found
+/// without looking at each. The paths of atoms ascend, so the end is found by halving.
+#[tactic(auto, using(crate::proofs::StretchLemmas::stretch_alone, crate::proofs::StretchLemmas::stretch_along))]
+fn stretch_from(outline: &Outline<'_>, table: &[Option<Arranged>], a: usize, b: usize) -> Stretch
     requires shows { ShowsFlows table.now (plan_seen outline.now).flows }
     requires ascending { IsAscending (plan_seen outline.now) }
     requires few { atoms_found outline.now ≤ 1000 }
@@ -111,19 +179,69 @@ fn last_alike(
 }
 
 /// The end of the atoms from `b` on whose paths go along with that of `b`, after so many turns, up to an
-/// item.
-#[tactic(auto, using(crate::proofs::StretchLemmas::along_start, crate::proofs::StretchLemmas::along_more))]
+/// item. Mostly that is where it would be if each item were one atom, or where the atoms end.
 fn end_along(outline: &Outline<'_>, b: usize, turns: usize, most: usize) -> usize
     requires ascending { IsAscending (plan_seen outline.now) }
     requires few { atoms_found outline.now ≤ 1000 }
     requires atom { b < atoms_found outline.now }
     ensures begins { b < result }
     ensures ends { result ≤ atoms_found outline.now }
-    ensures along { (k : ℕ) → b < k → k < result
-        → GoesAlong turns most (path_at (shown_atoms outline.now.atoms.items) b)
-        (path_at (shown_atoms outline.now.atoms.items) k) }
+    ensures along { IsAlongUpTo turns most (shown_atoms outline.now.atoms.items) b result }
 {
-    let mut end = b + 1;
+    let last = outline.atoms.len() - 1;
+    if goes_along(outline, b, turns, most, last) {
+        return last + 1;
+    }
+    let end = likely_end(outline, b, turns, most);
+    if end > last || !goes_along(outline, b, turns, most, end) {
+        return end;
+    }
+    end_by_halving(outline, b, turns, most, end)
+}
+
+/// After `b` and those that would follow it if each item were one atom, where the last of these goes along.
+#[tactic(auto, using(crate::proofs::StretchLemmas::along_start))]
+fn likely_end(outline: &Outline<'_>, b: usize, turns: usize, most: usize) -> usize
+    requires ascending { IsAscending (plan_seen outline.now) }
+    requires few { atoms_found outline.now ≤ 1000 }
+    requires atom { b < atoms_found outline.now }
+    ensures begins { b < result }
+    ensures ends { result ≤ atoms_found outline.now }
+    ensures along { IsAlongUpTo turns most (shown_atoms outline.now.atoms.items) b result }
+{
+    let likely = b.saturating_add(items_left(outline.atoms[b].path.turns(), turns, most));
+    if likely >= outline.atoms.len() || !goes_along(outline, b, turns, most, likely) {
+        return b + 1;
+    }
+    likely + 1
+}
+
+/// How many items there are up to this one after where a path turns.
+fn items_left(path: &[Turn], turns: usize, most: usize) -> usize {
+    match path.get(turns) {
+        Some(
+            Turn {
+                item: Some(item),
+                ..
+            },
+        ) => most.saturating_sub(*item),
+        Some(_) => most.saturating_add(1),
+        None => 0,
+    }
+}
+
+/// The end of the atoms that go along with `b`, of which those up to `first` do.
+fn end_by_halving(outline: &Outline<'_>, b: usize, turns: usize, most: usize, first: usize) -> usize
+    requires ascending { IsAscending (plan_seen outline.now) }
+    requires few { atoms_found outline.now ≤ 1000 }
+    requires begins { b < first }
+    requires ends { first ≤ atoms_found outline.now }
+    requires along { IsAlongUpTo turns most (shown_atoms outline.now.atoms.items) b first }
+    ensures begins { b < result }
+    ensures ends { result ≤ atoms_found outline.now }
+    ensures along { IsAlongUpTo turns most (shown_atoms outline.now.atoms.items) b result }
+{
+    let mut end = first;
     let mut past = outline.atoms.len();
     while end < past {
         let middle = end + (past - end) / 2;

@@ -1,16 +1,16 @@
-ghost use Rattle.std.specs.Prelude.{◌≡◌, ◌<◌, ◌≤◌, length, map, nat_le, IfOk, OnOk};
+ghost use Rattle.std.specs.Prelude.{◌≡◌, ℕ, ◌+◌, ◌<◌, ◌≤◌, length, map, slice_index_or, IfOk, OnOk};
 ghost use Rattle.tf_numbers.specs.Numbers.{which_below, numbers_below};
 ghost use Rattle.tf_model.specs.Plan.{is_before};
 ghost use Rattle.tf_order.specs.Arranged.{ShowsFlows};
 ghost use Rattle.tf_order.specs.Graph.{standing_of_plan};
 ghost use Rattle.tf_order.specs.Stretches.{IsAscending};
-ghost use Rattle.tf_order.specs.Tables.{plan_seen, atoms_found, RowsAdded, AreRows, AreTables, AllBelow};
+ghost use Rattle.tf_order.specs.Tables.{plan_seen, atoms_found, AreRows, AreRowsAt, AreSet, AreClosed, AreTables, AllBelow};
 
 use crate::arranged::Arranged;
 use crate::direct::direct_rows;
 use crate::graph::Graph;
 use crate::rows::{Row, empty_rows, short_numbers};
-use crate::stretches::stretch_from;
+use crate::stretches::{Stretch, stretch_at, stretch_of_last};
 use std::alloc::Global;
 use tf_flow::Outline;
 use tf_values::Memory;
@@ -47,8 +47,9 @@ pub fn tables(
     Ok(graph)
 }
 
-/// For each atom those before it and those after it, ascending.
-#[tactic(auto, using(crate::proofs::SpreadLemmas::earlier_start, crate::proofs::SpreadLemmas::earlier_next, crate::proofs::SpreadLemmas::earlier_all, crate::proofs::TableLemmas::rows_more, crate::proofs::TableLemmas::rows_whole))]
+/// For each atom those before it and those after it, ascending. A row of those before is open while the atoms
+/// are before it, and takes them all at once.
+#[tactic(auto, using(crate::proofs::SpreadLemmas::rows_start, crate::proofs::TableLemmas::rows_more, crate::proofs::TableLemmas::rows_whole, crate::proofs::SpreadLemmas::rows_end))]
 fn order_atoms(
     alloc: Global,
     outline: &Outline<'_>,
@@ -64,13 +65,32 @@ fn order_atoms(
         ≡ map (λ a. which_below (atoms_found outline.now) (is_before (plan_seen outline.now) a))
         (numbers_below (atoms_found outline.now))) }
 {
-    let numbers = all_numbers(alloc, outline.atoms.len())?;
-    let mut predecessors = empty_rows(alloc, outline.atoms.len())?;
-    let mut successors = Vec::with_capacity(alloc, outline.atoms.len())?;
-    for a in 0..outline.atoms.len() {
-        let after = add_atom(alloc, outline, table, &numbers, a, &mut predecessors)?;
+    let count = outline.atoms.len();
+    let numbers = all_numbers(alloc, count)?;
+    let mut opened = all_numbers(alloc, count)?;
+    let mut predecessors = empty_rows(alloc, count)?;
+    let mut successors = Vec::with_capacity(alloc, count)?;
+    for a in 0..count {
+        let after = add_atom(
+            alloc,
+            outline,
+            table,
+            &numbers,
+            a,
+            &mut opened,
+            &mut predecessors,
+        )?;
         successors.push(after)?;
     }
+    let _none = add_atom(
+        alloc,
+        outline,
+        table,
+        &numbers,
+        count,
+        &mut opened,
+        &mut predecessors,
+    )?;
     Ok(Orders {
         predecessors,
         successors,
@@ -90,51 +110,84 @@ fn all_numbers(alloc: Global, count: usize) -> Result<Vec<u16>, Memory>
     Ok(numbers)
 }
 
-/// The atoms after one, ascending; to the row of each it is added. A stretch of atoms that are all after it,
-/// or all not, is taken at once.
-#[tactic(auto, using(crate::proofs::SpreadLemmas::added_start))]
+/// The atoms after one, ascending. Rows of those before are opened where it comes before an atom and the last
+/// one didn't, and closed where the last one did and it doesn't. A stretch of atoms that are alike in this is
+/// taken at once. A number that no atom has is before none.
+#[tactic(auto, using(crate::proofs::SpreadLemmas::opened_earlier, crate::proofs::SpreadLemmas::rows_over))]
 fn add_atom(
     alloc: Global,
     outline: &Outline<'_>,
     table: &[Option<Arranged>],
     numbers: &[u16],
     a: usize,
-    predecessors: &mut Vec<Row>,
+    opened: &mut Vec<u16>,
+    rows: &mut Vec<Row>,
 ) -> Result<Row, Memory>
     requires shows { ShowsFlows table.now (plan_seen outline.now).flows }
     requires ascending { IsAscending (plan_seen outline.now) }
     requires few { atoms_found outline.now ≤ 1000 }
     requires numbers { numbers.now ≡ numbers_below (atoms_found outline.now) }
-    requires atom { a < atoms_found outline.now }
-    requires height { length predecessors.old.items ≡ atoms_found outline.now }
+    requires atom { a ≤ atoms_found outline.now }
+    requires rows { AreRowsAt (plan_seen outline.now) (atoms_found outline.now) a 0 rows.old.items opened.old.items }
     ensures after { IfOk result (λ after. after ≡ which_below (atoms_found outline.now)
         (is_before (plan_seen outline.now) a)) }
-    ensures before { OnOk result (RowsAdded (atoms_found outline.now)
-        (is_before (plan_seen outline.now) a) a predecessors.old.items predecessors.new.items) }
+    ensures rows { OnOk result (AreRowsAt (plan_seen outline.now) (atoms_found outline.now) (a + 1) 0
+        rows.new.items opened.new.items) }
 {
     let mut after = Row::new(alloc);
+    let mut last = Stretch::none();
+    let mut this = Stretch::none();
     let mut b = 0;
     while b < outline.atoms.len() {
-        let stretch = stretch_from(outline, table, a, b);
-        if stretch.is_after {
-            after.extend(&numbers[b..stretch.end])?;
-            add_to_each(a, b, stretch.end, predecessors)?;
+        last = stretch_of_last(outline, table, a, b, last);
+        this = stretch_at(outline, table, a, b, this);
+        let end = last.end.min(this.end);
+        if this.is_after {
+            after.extend(&numbers[b..end])?;
+            if !last.is_after {
+                open_rows(a, b, end, opened);
+            }
+        } else if last.is_after {
+            close_rows(numbers, a, b, end, opened, rows)?;
         }
-        b = stretch.end;
+        b = end;
     }
     Ok(after)
 }
 
-/// Adds a number to the rows from one up to before the end.
-#[tactic(auto, using(crate::proofs::SpreadLemmas::spread_start, crate::proofs::SpreadLemmas::spread_next))]
-fn add_to_each(number: usize, from: usize, end: usize, rows: &mut Vec<Row>) -> Result<(), Memory>
-    requires number { number < 1000 }
+/// The rows from one up to before the end are opened at this number.
+#[tactic(auto, using(crate::proofs::SpreadLemmas::setting_start, crate::proofs::SpreadLemmas::setting_next))]
+fn open_rows(number: usize, from: usize, end: usize, opened: &mut Vec<u16>)
+    requires number { number ≤ 1000 }
     requires order { from ≤ end }
-    requires height { end ≤ length rows.old.items }
-    ensures { OnOk result (RowsAdded end (nat_le from) number rows.old.items rows.new.items) }
+    requires width { end ≤ length opened.old.items }
+    ensures { AreSet number from end opened.old.items opened.new.items }
 {
     for row in from..end {
-        rows[row].push(number as u16)?;
+        opened[row] = number as u16;
+    }
+}
+
+/// Adds to the rows from one up to before the end the numbers from where each was opened up to before this
+/// one.
+#[tactic(auto, using(crate::proofs::SpreadLemmas::closing_start, crate::proofs::SpreadLemmas::closing_next))]
+fn close_rows(
+    numbers: &[u16],
+    number: usize,
+    from: usize,
+    end: usize,
+    opened: &[u16],
+    rows: &mut Vec<Row>,
+) -> Result<(), Memory>
+    requires number { number ≤ length numbers.now }
+    requires order { from ≤ end }
+    requires earlier { (k : ℕ) → from ≤ k → k < end → slice_index_or opened.now k 0 ≤ number }
+    requires width { end ≤ length opened.now }
+    requires height { end ≤ length rows.old.items }
+    ensures { OnOk result (AreClosed numbers.now number from end opened.now rows.old.items rows.new.items) }
+{
+    for row in from..end {
+        rows[row].extend(&numbers[opened[row] as usize..number])?;
     }
     Ok(())
 }

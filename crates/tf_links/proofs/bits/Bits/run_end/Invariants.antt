@@ -1,11 +1,10 @@
-use Rattle.std.proofs.Common.{◌-◌, ◌<◌, ◌≤◌}
+use Rattle.std.proofs.Common.{◌-◌, ◌<◌}
 use Rattle.tf_links.proofs.NumberLemmas.{IsRun}
 use Rattle.tf_links.proofs.bits.Bits.run_end.Given as goal
 
 abbrev pub invariant-loop-end : goal.invariant-loop-end
 invariant-loop-end l = record {
   begins : l.from < l.end;
-  ends : l.end ≤ l.past;
   alike : IsRun l.self l.from l.end;
 }
 

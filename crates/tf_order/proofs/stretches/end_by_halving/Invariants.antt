@@ -1,14 +1,15 @@
 use Rattle.std.proofs.Common.{◌-◌, ◌<◌, ◌≤◌}
+use Rattle.tf_flow.specs.Listing.{shown_atoms}
+use Rattle.tf_order.specs.Stretches.{IsAlongUpTo}
 use Rattle.tf_order.specs.Tables.{atoms_found}
-use Rattle.tf_order.proofs.StretchLemmas.{AllAlong}
-use Rattle.tf_order.proofs.stretches.end_along.Given as goal
+use Rattle.tf_order.proofs.stretches.end_by_halving.Given as goal
 
 abbrev pub invariant-loop-end : goal.invariant-loop-end
 invariant-loop-end l = record {
   begins : l.b < l.end;
   ends : l.end ≤ l.past;
   past : l.past ≤ atoms_found l.outline;
-  along : AllAlong l.outline l.b l.turns l.most l.end;
+  along : IsAlongUpTo l.turns l.most (shown_atoms l.outline.atoms.items) l.b l.end;
 }
 
 abbrev pub decreases-loop-end : goal.decreases-loop-end
