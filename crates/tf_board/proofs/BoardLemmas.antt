@@ -1,5 +1,5 @@
 -- What the calls of a board leave.
-use Rattle.std.proofs.Common.{◌≡◌, ◌⊎◌, ◌<◌, ℕ, suc, ◌+◌, List, length, get_or, Option, Some, None, Result, Err, refl, sym, ap, subst, ◌∙◌, inl, inr, arith}
+use Rattle.std.proofs.Common.{◌≡◌, ◌⊎◌, ◌<◌, ℕ, suc, ◌+◌, List, length, get_or, Option, Some, None, Result, Err, refl, sym, ap, subst, ◌∙◌, inl, inr, arith, ◌∷◌, [], IfSome}
 use Rattle.std.specs.Prelude.{slice_get}
 use Rattle.std.proofs.lemmas.Option.{slice_get-get_or}
 use Rattle.tf_desk.specs.State.{DeskState, bytes_now, MayLeave, GoesOn}
@@ -9,7 +9,8 @@ use Rattle.tf_journal.specs.declared.title.Title.{Title}
 use Rattle.tf_journal.specs.declared.title.Title.TheVariants.{Jobs as jobs_title}
 use Rattle.tf_journal.proofs.HeaderLemmas.{sixteen}
 use Rattle.tf_journal.proofs.LieLemmas.{recovered_lies}
-use Rattle.tf_board.specs.Board.{BoardValue, board_in, bodies_of, Holds, LeavesHeld, IsSound, refused_at, refused_of, refuses_id, jobs_of, numbered, place_of, named, owner_in, owner_of}
+use Rattle.std.proofs.lemmas.List.Quantifiers.{position-Some}
+use Rattle.tf_board.specs.Board.{BoardValue, board_in, bodies_of, Holds, LeavesHeld, IsSound, refused_at, refused_of, refuses_id, jobs_of, numbered, place_of, named, has_id, owner_in, owner_of}
 use Rattle.tf_board.specs.Does.{LeavesRecorded, FailsToRecord, Records, fault_of, number_at, applied, Acts}
 use Rattle.tf_board.specs.declared.board.Owner.TheVariants as owned
 use Rattle.tf_board.specs.declared.commands.Command.{Command}
@@ -36,6 +37,15 @@ named_there past items id place job same there within read =
     let at : slice_get items place ≡ Some job = slice_get-get_or items place job within ∙ ap Some (sym read) in
     let at_jobs : slice_get (jobs_of past) place ≡ Some job = sym (ap (λ (l : List Job). slice_get l place) same) ∙ at in
     (named_by (jobs_of past) id (Some place) (sym (there ∙ ap (λ (l : List Job). place_of l id) same)) ∙ at_jobs, at_jobs)
+
+-- a place at which the first job has an id is that of a job
+place_within : (items : List Job) (id : List ℕ) (place : ℕ) → Some place ≡ place_of items id → place < length items
+place_within [] id place there = absurd (cc)
+place_within (job ∷ items) id place there = (position-Some (has_id id) (job ∷ items) place job (sym there)).0
+
+pub placed_within : (items : List Job) (id : List ℕ) (place : Option ℕ) → place ≡ place_of items id → IfSome place (λ at. at < length items)
+placed_within items id None there = tt
+placed_within items id (Some place) there = place_within items id place there
 
 -- who has a job that stands so
 pub owner_there : (past : List Command) (id : List ℕ) (job : Job) (s : Standing) → named (jobs_of past) id ≡ Some job → job.standing ≡ s → owner_in (Some (record job { standing = s })) ≡ owner_of past id

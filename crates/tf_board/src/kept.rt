@@ -1,11 +1,13 @@
-ghost use Rattle.std.specs.Prelude.{◌≡◌, ◌≢◌, ◌<◌, ◌+◌, ◌∷◌, ◌++◌, [], List, length, None, OnOk, IfOk, IfSome, MatchOption, vec_len, vec_capacity};
+ghost use Rattle.std.specs.Prelude.{◌≡◌, ◌≢◌, ◌<◌, ◌+◌, ◌∷◌, ℕ, suc, option_map, ◌++◌, [], List, length, None, OnOk, IfOk, IfSome, MatchOption, vec_len, vec_capacity};
 ghost use Rattle.std.specs.List.{position};
 ghost use Rattle.tf_board.specs.Board.{IsCommand, same, posted as count_of, job_at, place_of as place_among, posted_with, refuses, past_of, past_in, IsTrueTo, HasRoom, IsChange, AreSideBySide};
+ghost use Rattle.tf_board.specs.Seeking.{is_free_under};
 ghost use Rattle.tf_board.specs.declared.commands.Command.{Command as ACommand};
+ghost use Rattle.tf_board.specs.declared.jobs.Job.{Job as AJob};
 
 use crate::commands::Command;
 use crate::ids::job_id;
-use crate::jobs::{Job, Standing, free_as};
+use crate::jobs::{Job, Standing, free_as, is_priority};
 use crate::rules::refusal_at;
 use std::alloc::{AllocError, Global};
 use std::snapshot::Snapshot;
@@ -57,6 +59,23 @@ fn keep_details(details: &mut Vec<Val>, command: Command)
     }
 }
 
+/// The first place at which a job is free under the priority.
+pub fn first_under(free: &[Option<Priority>], priority: Priority) -> Option<usize>
+    ensures { result ≡ position (is_free_under priority) free.now }
+{
+    free.iter().position(|other| is_under(*other, priority))
+}
+
+/// Whether a job is free under this priority.
+fn is_under(free: Option<Priority>, priority: Priority) -> bool
+    ensures { result ≡ is_free_under priority free }
+{
+    match free {
+        Some(other) => is_priority(other, priority),
+        None => false,
+    }
+}
+
 /// Whether the two ids are the same.
 pub fn is_id(a: &Uuid, b: &Uuid) -> bool
     ensures { result ≡ same a.now b.now }
@@ -70,6 +89,15 @@ fn place_in(ids: &[Uuid], id: &Uuid) -> Option<usize>
     ensures within { IfSome result (λ place. place < length ids.now) }
 {
     ids.iter().position(|other| is_id(other, id))
+}
+
+/// The place of the job of a number, of which the first is 1.
+fn place_at(number: Option<u64>) -> Option<usize>
+    ensures { (jobs : List AJob) (id : List ℕ) → number ≡ option_map (λ place. suc place) (place_among jobs id)
+        → result ≡ place_among jobs id }
+{
+    let place = number?.checked_sub(1)?;
+    Some(place as usize)
 }
 
 impl Kept {
@@ -100,6 +128,15 @@ impl Kept {
         ensures within { IfSome result (λ place. place < length self.now.jobs.items) }
     {
         place_in(&self.ids, id)
+    }
+
+    /// The same where its number is known already, of which the first is 1.
+    pub fn place_numbered(&self, number: Option<u64>, id: &Uuid) -> Option<usize>
+        requires { number ≡ option_map (λ place. suc place) (place_among self.now.jobs.items id.now) }
+        ensures is { result ≡ place_among self.now.jobs.items id.now }
+        ensures within { IfSome result (λ place. place < length self.now.jobs.items) }
+    {
+        place_at(number)
     }
 
     /// The job that is posted next, with this name and this priority.

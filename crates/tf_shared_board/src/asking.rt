@@ -38,9 +38,9 @@ fn act<K: Desk>(
     ensures { AsksFor K.state (refuses_id board.old.past action id.now owner.now) id.now
         (number_of board.old.past id.now) (applied board.old.past action id.now owner.now) board.old board.new result }
 {
-    let job = board.number_of(id).unwrap_or(0);
-    match board.act(action, id, owner) {
-        Ok(()) => Ok(job),
+    let number = board.number_of(id);
+    match board.act_on(number, action, id, owner) {
+        Ok(()) => Ok(number.unwrap_or(0)),
         Err(fault) => Err(fault),
     }
 }

@@ -1,6 +1,7 @@
 ghost use Rattle.std.specs.Prelude.{◌≡◌, ◌⊎◌, ◌+◌, IfOk};
 ghost use Rattle.tf_board.specs.Board.{posted as count_of, refuses_id, LegalJobs, owner_of};
 ghost use Rattle.tf_board.specs.Does.{fault_of as named_fault, Records, Acts};
+ghost use Rattle.tf_board.specs.Seeking.{number_named};
 ghost use Rattle.tf_board.specs.declared.commands.Command.TheVariants as command;
 
 use super::{Board, Owner};
@@ -99,7 +100,23 @@ impl<K: Desk> Board<K> {
         ensures { Acts K.state (refuses_id self.old.past action id.now owner.now) self.old self.new
             action id.now owner.now result }
     {
-        let Some(place) = self.kept.place_of(id) else {
+        let number = self.number_of(id);
+        self.act_on(number, action, id, owner)
+    }
+
+    /// The same where the number of the job that the id names is known already, as `number_of` tells it.
+    pub fn act_on(
+        &mut self,
+        number: Option<u64>,
+        action: JobAction,
+        id: &Uuid,
+        owner: &Name,
+    ) -> Result<(), BoardFault>
+        requires { number ≡ number_named self.old.past id.now }
+        ensures { Acts K.state (refuses_id self.old.past action id.now owner.now) self.old self.new
+            action id.now owner.now result }
+    {
+        let Some(place) = self.kept.place_numbered(number, id) else {
             return Err(fault_of(self.alloc, Refusal::NoJob, id));
         };
         match refusal_at(self.kept.jobs[place].standing, action, owner) {

@@ -2,12 +2,12 @@ ghost use Rattle.std.specs.Prelude.{◌≡◌, ◌<◌, ◌^◌, ◌&&◌, Some,
 ghost use Rattle.std.specs.List.{find, filter};
 ghost use Rattle.tf_board.specs.Board.{AreOfBoard, AreSideBySide, is_listed as listed, numbered, names_itself as itself};
 ghost use Rattle.tf_board.specs.Does.{number_of as number_in};
-ghost use Rattle.tf_board.specs.Seeking.{number_among, is_takable as takable, is_free_under as under, free_job as found_free, number_named, id_at, details_at};
+ghost use Rattle.tf_board.specs.Seeking.{number_among, is_takable as takable, free_job as found_free, number_named, id_at, details_at};
 
 use super::Board;
 use super::listing::PRIORITIES;
-use crate::jobs::{Job, is_priority};
-use crate::kept::Kept;
+use crate::jobs::{Job, is_listed};
+use crate::kept::{Kept, first_under};
 use tf_desk::Desk;
 use tf_states::Priority;
 use tf_values::Val;
@@ -48,16 +48,6 @@ fn is_takable(kept: &Kept, skip: &[u64], job: &Job) -> bool
     names_itself(kept, job)
 }
 
-/// Whether a job is free under this priority.
-fn is_free_under(free: Option<Priority>, priority: Priority) -> bool
-    ensures { result ≡ under priority free }
-{
-    match free {
-        Some(other) => is_priority(other, priority),
-        None => false,
-    }
-}
-
 /// Whether the job at a place is listed among those of the priority, and may be taken.
 fn is_free_at(kept: &Kept, skip: &[u64], priority: Priority, place: usize) -> bool
     requires side_by_side { AreSideBySide kept.now }
@@ -65,7 +55,8 @@ fn is_free_at(kept: &Kept, skip: &[u64], priority: Priority, place: usize) -> bo
     ensures { (job : Job) → slice_get kept.now.jobs.items place ≡ Some job
         → result ≡ (listed priority job && takable kept.now.jobs.items skip.now job) }
 {
-    is_free_under(kept.free[place], priority) && is_takable(kept, skip, &kept.jobs[place])
+    let job = &kept.jobs[place];
+    is_listed(priority, job) && is_takable(kept, skip, job)
 }
 
 /// The first job that is free under the priority and may be taken.
@@ -74,7 +65,10 @@ fn first_free<'a>(kept: &'a Kept, skip: &[u64], priority: Priority) -> Option<&'
     ensures { option_copied result ≡ find (λ job. listed priority job && takable kept.now.jobs.items skip.now job)
         kept.now.jobs.items }
 {
-    for place in 0..kept.jobs.len() {
+    let Some(start) = first_under(&kept.free, priority) else {
+        return None;
+    };
+    for place in start..kept.jobs.len() {
         if is_free_at(kept, skip, priority, place) {
             return Some(&kept.jobs[place]);
         }

@@ -1,7 +1,9 @@
-use Rattle.std.proofs.Common.{sym, subst}
-use Rattle.tf_board.specs.Board.{BoardValue, IsSound}
+use Rattle.std.proofs.Common.{ℕ, List, suc, sym, ap, subst, ◌∙◌}
+use Rattle.std.specs.Prelude.{option_map}
+use Rattle.tf_board.specs.Board.{BoardValue, IsSound, place_of}
+use Rattle.tf_board.specs.declared.jobs.Job.{Job}
 use Rattle.tf_board.proofs.BoardLemmas.{named_there, allowed_there, refused_there, refused_none, applied_there, acts_refused, acts_allowed}
-use Rattle.tf_board.proofs.board.Board.act.Goals as goal
+use Rattle.tf_board.proofs.board.Board.act_on.Goals as goal
 
 pub returns-in_default : goal.returns-in_default
 returns-in_default g c =
@@ -32,3 +34,8 @@ returns-in-None g c =
     acts_allowed D.state _ c.args.self.now c.record.new.self c.args.action c.args.id.now c.args.owner.now _ _
     (refused_there c.args.self.now.past c.args.id.now c.index.result.now c.args.action c.args.owner.now _ t.0 (sym c.in-None.ensures))
     (applied_there c.args.self.now.past c.self.inside.kept.jobs.items c.args.id.now c.in-Some.place c.args.action c.args.owner.now s.true_to.jobs c.in-Some.ensures.is) c.record.ensures
+
+pub place_numbered-requires : goal.place_numbered-requires
+place_numbered-requires g c =
+    let s = subst (λ (b : BoardValue _). IsSound g.K.Desk.state c.self.inside.kept b) c.self.view_is c.self.invariant in
+    c.requires ∙ ap (λ (jobs : List Job). option_map (λ (place : ℕ). suc place) (place_of jobs c.args.id.now)) (sym s.true_to.jobs)
