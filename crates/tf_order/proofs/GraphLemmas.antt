@@ -1,7 +1,7 @@
 -- A graph tells of each atom what its plan says.
 use Rattle.std.proofs.Common.{◌≡◌, ℕ, zero, suc, ◌<◌, ◌≤◌, List, [], ◌∷◌, ◌++◌, length, Bool, true, false, ◌&&◌, Option, Some, None, refl, sym, ap, ◌∙◌, inl, inr, map, slice_get, arith, eqb-true, eq-eqb}
-use Rattle.std.specs.Prelude.{nat_eq, nat_lt, if◌then◌else◌}
-use Rattle.std.proofs.lemmas.Bool.{cases_lt, lt-ltb}
+use Rattle.std.specs.Prelude.{nat_eq, if◌then◌else◌}
+use Rattle.std.proofs.lemmas.Bool.{cases_lt}
 use Rattle.tf_flow.specs.Plan.{PlanValue}
 use Rattle.tf_numbers.specs.Numbers.{which_below, numbers_below, has_number}
 use Rattle.tf_flow.specs.Outline.{Atom}

@@ -1,8 +1,8 @@
 -- Rows that grow by stretches of numbers, and what tables tell of a plan.
 use Rattle.tf_flow.specs.Paths.{shown_part}
 use Rattle.std.proofs.Common.{◌≡◌, ◌≢◌, ℕ, zero, suc, ◌+◌, ◌<◌, ◌≤◌, ◌-◌, ◌⊎◌, List, [], ◌∷◌, ◌++◌, length, take, drop, map, Bool, true, false, ◌&&◌, not, Option, Some, None, refl, sym, ap, subst, ◌∙◌, add-one, inl, inr, arith, eqb-true, eq-eqb, slice_set, slice_get, slice_index_or}
-use Rattle.std.specs.Prelude.{nat_eq, nat_le, nat_lt, slice_range, if◌then◌else◌}
-use Rattle.std.proofs.lemmas.Bool.{cases_lt, lt-ltb, ltb-true, le-leb, leb-true}
+use Rattle.std.specs.Prelude.{nat_eq, slice_range, if◌then◌else◌}
+use Rattle.std.proofs.lemmas.Bool.{cases_lt}
 use Rattle.std.proofs.lemmas.List.{length-set, length-map, get_or-set_same, get_or-set_other}
 use Rattle.std.specs.Option.{unwrap_or}
 use Rattle.tf_model.specs.Before.{Flow, find_flow, no_flow, path_at}
@@ -29,7 +29,7 @@ use Rattle.tf_numbers.proofs.EquationLemmas.{ap2}
 use Rattle.tf_order.proofs.GraphLemmas.{row_told, rows_length}
 use Rattle.tf_flow.proofs.NumberingLemmas.{atom_there}
 use Rattle.tf_order.proofs.PathLemmas.{path_there}
-use Rattle.tf_numbers.proofs.TruthLemmas.{same_truth, never_true, clash, and_false, and_second, and_first}
+use Rattle.tf_numbers.proofs.TruthLemmas.{clash}
 use Rattle.tf_links.proofs.StandingLemmas.{listed_within, taking_none, taking_next}
 use Rattle.tf_numbers.proofs.ListLemmas.{nothing_after}
 use Rattle.tf_order.proofs.TableLemmas.{row_read_at, chain, so_many, number_there, read_dropped, left_over}

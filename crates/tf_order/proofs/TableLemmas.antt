@@ -1,22 +1,18 @@
 -- Rows of the numbers of atoms, and what they tell of a plan.
-use Rattle.std.proofs.Common.{◌≡◌, ℕ, zero, suc, ◌+◌, ◌<◌, ◌≤◌, ◌-◌, List, [], ◌∷◌, ◌++◌, length, take, drop, map, Bool, true, false, ◌&&◌, ◌||◌, refl, sym, ap, ◌∙◌, add-one, inl, inr, arith, eqb-true, eq-eqb, slice_index_or}
-use Rattle.std.specs.Prelude.{nat_eq, nat_lt}
-use Rattle.std.proofs.lemmas.Bool.{cases_lt, lt-ltb, ltb-true}
+use Rattle.std.proofs.Common.{◌≡◌, ℕ, zero, suc, ◌+◌, ◌<◌, ◌≤◌, ◌-◌, List, [], ◌∷◌, ◌++◌, length, drop, map, true, refl, sym, ap, ◌∙◌, add-one, inl, inr, arith, eqb-true, slice_index_or}
+use Rattle.std.specs.Prelude.{nat_eq}
+use Rattle.std.proofs.lemmas.Bool.{cases_lt}
 use Rattle.std.proofs.lemmas.List.{map-append}
-use Rattle.std.proofs.lemmas.Option.{slice_get_past}
 use Rattle.tf_numbers.specs.Numbers.{numbers_below, which_below, has_number}
 use Rattle.tf_model.specs.Plan.{count}
 use Rattle.tf_links.specs.Bits.{has, room, words_for}
-use Rattle.tf_links.specs.Links.{leads}
 use Rattle.tf_order.specs.Rows.{row_at}
 use Rattle.tf_order.specs.Tables.{AllBelow}
 use Rattle.tf_numbers.proofs.BelowLemmas.{which_more}
 use Rattle.tf_numbers.proofs.EquationLemmas.{ap2}
 use Rattle.tf_numbers.proofs.PairLemmas.{which_passes}
-use Rattle.tf_links.proofs.LinkLemmas.{past_row}
-use Rattle.tf_numbers.proofs.TruthLemmas.{never_true, clash, and_false, or_false, and_second, and_first, or_true, and_spread}
-use Rattle.tf_links.proofs.StandingLemmas.{number_more, taking_none, taking_next, taking_all}
-use Rattle.tf_numbers.proofs.ListLemmas.{read_more, read_last, length_more}
+use Rattle.tf_numbers.proofs.TruthLemmas.{never_true}
+use Rattle.tf_numbers.proofs.ListLemmas.{length_more}
 
 -- ---- one row more
 

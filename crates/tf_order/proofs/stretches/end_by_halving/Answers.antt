@@ -1,6 +1,4 @@
-use Rattle.std.proofs.Common.{◌≡◌, ℕ, ◌+◌, ◌-◌, ◌/◌, ◌<◌, ◌≤◌, refl, arith}
-use Rattle.std.proofs.lemmas.Grind.{common_steps}
-use Rattle.tf_order.specs.Tables.{atoms_found}
+use Rattle.std.proofs.Common.{◌+◌, ◌-◌, ◌/◌, ◌<◌, refl, arith}
 use Rattle.tf_order.proofs.StretchLemmas.{along_to}
 use Rattle.tf_order.proofs.stretches.end_by_halving.Goals as goal
 

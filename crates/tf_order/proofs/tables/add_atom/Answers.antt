@@ -1,4 +1,4 @@
-use Rattle.std.proofs.Common.{◌≡◌, ℕ, ◌≤◌, ◌∙◌, List, length, sym, subst, arith}
+use Rattle.std.proofs.Common.{ℕ, ◌≤◌, ◌∙◌, List, length, sym, subst, arith}
 use Rattle.tf_model.specs.Plan.{is_before}
 use Rattle.tf_order.specs.Stretches.{TellsTheSame}
 use Rattle.tf_order.specs.Tables.{plan_seen, atoms_found, is_after_last, AreClosed}
