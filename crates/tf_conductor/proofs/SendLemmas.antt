@@ -7,6 +7,8 @@ use denote.Struct.Tuple.{TupleAt, type_at}
 use Rattle.std.specs.Prelude.{ℕ, List, [], ◌∷◌}
 use Rattle.std.proofs.Crossing.{crosses}
 use Rattle.std.proofs.alloc.Global.TheSendSync as heap
+use Rattle.uuid.proofs.Uuid.TheSendSync as uuid
+use Rattle.tf_states.proofs.priorities.Priority.TheSendSync as priority
 use Rattle.tf_values.proofs.value.Val.TheSendSync as value
 use Rattle.tf_desk.specs.declared.device.Desk.{Ghosts}
 use Rattle.tf_journal.proofs.journal.Journal.TheSendSync as journal
@@ -23,7 +25,7 @@ use Rattle.tf_turnstile.specs.contracts.passes.Turnstile as turnstile
 use Rattle.tf_turnstile.proofs.passes.Turnstile.TheSendSync as turnstiles
 
 pub board_send : (K : RattleType) (g : Ghosts K.Denot) → IsSend K → IsSend (board.the_row K g)
-board_send K g k = search (sendable, crosses, heap.the_field_send, journal.the_send, job.the_send, value.the_send) depth 24
+board_send K g k = search (sendable, crosses, heap.the_field_send, journal.the_send, job.the_send, value.the_send, uuid.the_send, priority.the_send) depth 24
 
 pub shared_send : (K : RattleType) (g : Ghosts K.Denot) → IsSend K → IsSend (shared.the_row K g)
 shared_send K g k = search (sendable, crosses, heap.the_field_send, board_send, made.the_send, halt.the_send) depth 20
