@@ -11,16 +11,16 @@ all_read width n at file is = elim (cases_lt (length file - at) width) [
   | inr whole ↦ let same : n ≡ width = omega (arith, is, whole) in ap (λ (k : ℕ). take k (drop at file)) same
 ]
 
--- five bytes that a window has are the file's
-pub covered : (file bytes : List ℕ) (start count place : ℕ) → take count bytes ≡ take count (drop start file) → start ≤ place → place - start + 5 ≤ count
-    → take 5 (drop (place - start) bytes) ≡ take 5 (drop place file)
-covered file bytes start count place part from within =
+-- bytes that a window has are the file's
+pub covered : (n : ℕ) (file bytes : List ℕ) (start count place : ℕ) → take count bytes ≡ take count (drop start file) → start ≤ place → place - start + n ≤ count
+    → take n (drop (place - start) bytes) ≡ take n (drop place file)
+covered n file bytes start count place part from within =
     let at = place - start in
     let whole : start + at ≡ place = omega (arith, from) in
-    sym (drop-take at 5 bytes)
-    ∙ ap (drop at) (sym (take-take (at + 5) count bytes within) ∙ ap (take (at + 5)) part ∙ take-take (at + 5) count (drop start file) within)
-    ∙ drop-take at 5 (drop start file)
-    ∙ ap (take 5) (drop-drop at start file ∙ ap (λ (k : ℕ). drop k file) whole)
+    sym (drop-take at n bytes)
+    ∙ ap (drop at) (sym (take-take (at + n) count bytes within) ∙ ap (take (at + n)) part ∙ take-take (at + n) count (drop start file) within)
+    ∙ drop-take at n (drop start file)
+    ∙ ap (take n) (drop-drop at start file ∙ ap (λ (k : ℕ). drop k file) whole)
 
 -- the first five bytes of what was read, or all of it
 pub first_read : (bytes rest : List ℕ) (count : ℕ) → length bytes ≡ 4096 → count ≤ 4096 → take count bytes ≡ take 4096 rest → take (min count 5) bytes ≡ take 5 rest

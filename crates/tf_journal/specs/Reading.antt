@@ -5,6 +5,8 @@ use Rattle.tf_journal.specs.Format.{SIZE_LIMIT, bad, record_at, Held, LiesAs, Is
 use Rattle.tf_journal.specs.declared.faults.LoadFault.{LoadFault}
 use Rattle.tf_journal.specs.declared.faults.LoadFault.TheVariants as load_fault
 use Rattle.tf_journal.specs.declared.title.Title.{Title}
+use Rattle.tf_journal.specs.declared.window.Window.{Window}
+use Rattle.tf_journal.specs.Reach.{IsWindow}
 
 -- what was found behind bodies: nothing is left, or the next body
 abbrev pub IsNext : Bool → List (List ℕ) → List ℕ → Type 0
@@ -14,6 +16,10 @@ IsNext true rest found = (others : List (List ℕ)) × (rest ≡ found ∷ other
 -- these bodies lie in the journal's file
 abbrev pub HasBodies : {K : Type 0} → (K → DeskState) → Held K → List (List ℕ) → Type 0
 HasBodies state journal held = LiesAs journal.title held journal.size (bytes_now (state journal.desk))
+
+-- where the desk tells its content, the window shows the picked file
+abbrev pub IsWindowOf : DeskState → Window → Type 0
+IsWindowOf desk window = IsTrue desk.tells → IsWindow (bytes_now desk) window
 
 -- a fault that says nothing of the file
 abbrev pub IsNoRefusal : LoadFault → Type 0

@@ -5,7 +5,8 @@ ghost use Rattle.tf_journal.specs.Adding.{Adds, AddsAtMost, AddsToDraft, StaysDr
 ghost use Rattle.tf_journal.specs.Answers.{RefusesFile, RefusesRecord, GivesRecord, FailsToCreate, FailsToRead};
 ghost use Rattle.tf_journal.specs.Birth.{born_bytes, draft_bytes};
 ghost use Rattle.tf_journal.specs.Format.{length_bytes, is_unborn, bodies, recovered, record_at, IsBody, IsAtRest, IsDrafted, IsReady, IsDraft, AtRest, AsDraft, HasSynced, IsSynced, LeavesUnborn, LeavesBirth, desk_after};
-ghost use Rattle.tf_journal.specs.Reading.{OnlyReads};
+ghost use Rattle.tf_journal.specs.Reach.{IsWindow};
+ghost use Rattle.tf_journal.specs.Reading.{IsWindowOf, OnlyReads};
 
 use crate::birth::{bear, begin};
 use crate::faults::{AppendFault, JournalFault};
@@ -13,6 +14,7 @@ use crate::gates::{OPEN, write_gated, write_synced};
 use crate::reading::read_record;
 use crate::scanning::{SIZE_LIMIT, find_end};
 use crate::title::Title;
+use crate::window::Window;
 use std::alloc::Global;
 use std::marker::Model;
 use tf_desk::Desk;
@@ -281,10 +283,58 @@ impl<K: Desk> Journal<K> {
         ensures fails { IfErr result (λ fault. FailsToRead fault (K.state self.old.desk) (K.state self.new.desk)) }
         ensures reads { OnlyReads K.state self.old self.new }
     {
+        let mut window = self.window()?;
+        self.body_through(&mut window, place, into)
+    }
+
+    /// A window onto the journal's file that has no byte of it yet. `Disk` comes only where the count of disk faults
+    /// rose, and no other fault. A volatile journal asks the disk for nothing. No file changes, and it takes no memory.
+    pub fn window(&mut self) -> Result<Window, JournalFault>
+        ensures shows { self.old.volatile ≡ false
+            → IfOk result (IsWindowOf (K.state self.new.desk)) }
+        ensures volatile { self.old.volatile ≡ true → self.new ≡ self.old }
+        ensures fails { IfErr result (λ fault. (self.old.volatile ≡ false) × (fault ≡ JournalFault.Disk)
+            × Rises (K.state self.old.desk).disk_faults (K.state self.new.desk).disk_faults) }
+        ensures reads { OnlyReads K.state self.old self.new }
+    {
+        if self.volatile {
+            return Ok(Window::make(0));
+        }
+        match self.desk.size() {
+            Ok(size) => Ok(Window::make(size)),
+            Err(_) => Err(JournalFault::Disk),
+        }
+    }
+
+    /// Reads the record whose gate is at that place as `body_at` does, through a window onto the journal's file, which
+    /// is one after each answer too.
+    pub(crate) fn body_through(
+        &mut self,
+        window: &mut Window,
+        place: u64,
+        into: &mut Vec<u8>,
+    ) -> Result<Option<u64>, JournalFault>
+        requires { place < 67108864 }
+        ensures gives { IsTrue (K.state self.old.desk).tells → self.old.volatile ≡ false
+            → IsWindow (bytes_now (K.state self.old.desk)) window.old
+            → IfOk result
+            (λ next. GivesRecord next into.old.items into.new.items
+            (record_at self.old.title (bytes_now (K.state self.old.desk)) place)) }
+        ensures refuses { IsTrue (K.state self.old.desk).tells → self.old.volatile ≡ false
+            → IsWindow (bytes_now (K.state self.old.desk)) window.old
+            → IfErr result
+            (λ fault. RefusesRecord fault (record_at self.old.title (bytes_now (K.state self.old.desk)) place)) }
+        ensures window { IsWindowOf (K.state self.old.desk) window.old
+            → IsWindowOf (K.state self.new.desk) window.new }
+        ensures volatile { self.old.volatile ≡ true → (result ≡ Ok None) × (self.new ≡ self.old)
+            × (into.new.items ≡ into.old.items) }
+        ensures fails { IfErr result (λ fault. FailsToRead fault (K.state self.old.desk) (K.state self.new.desk)) }
+        ensures reads { OnlyReads K.state self.old self.new }
+    {
         if self.volatile {
             return Ok(None);
         }
-        read_record(&mut self.desk, self.title, place, into)
+        read_record(&mut self.desk, window, self.title, place, into)
     }
 
     /// The place after the last gate.

@@ -17,3 +17,4 @@ pub use faults::{AppendFault, JournalFault, LoadFault, ScanFault};
 pub use journal::Journal;
 pub use scanning::{Scanned, scan};
 pub use title::Title;
+pub use window::Window;

@@ -71,22 +71,6 @@ fn read_head(head: &[u8], size: u64, place: u64, title: Title) -> Look
     Look::Body { length }
 }
 
-/// Looks at the record whose gate is at that place. The file's size is asked for after the record's first bytes
-/// are read, so that a record which another program adds at the time is in the file where its gate is open.
-pub fn look_at<K: Desk>(desk: &mut K, place: u64, title: Title) -> Result<Look, DeskFault>
-    requires { place < SIZE_LIMIT }
-    ensures near { IfOk result (λ look. IsNear look place) }
-    ensures shows { IfOk result (λ look. IsTrue (K.state desk.old).tells
-        → Shows title look (bytes_now (K.state desk.old)) place) }
-    ensures rests { Rests (K.state desk.old) (K.state desk.new) }
-    ensures fails { IfErr result (λ fault. FailsOnDisk fault (K.state desk.old) (K.state desk.new)) }
-{
-    let mut head = [0; 5];
-    let count = desk.read(place, &mut head)?;
-    let size = desk.size()?;
-    Ok(read_head(&head[..count], size, place, title))
-}
-
 /// Whether a record isn't one only because the file ends too early.
 fn is_cut(look: &Look) -> bool {
     matches!(look, Look::Bad { byte: None, .. })
@@ -94,7 +78,7 @@ fn is_cut(look: &Look) -> bool {
 
 /// Looks at the record whose gate is at that place through the window, whose file has that size as asked for last.
 /// Where the file ends too early the size is asked for again: another program may have added the record meanwhile.
-fn look_through<K: Desk>(
+pub(crate) fn look_through<K: Desk>(
     desk: &mut K,
     window: &mut Window,
     place: u64,
@@ -105,8 +89,8 @@ fn look_through<K: Desk>(
     ensures shows { IfOk result (λ look. IsTrue (K.state desk.old).tells
         → IsWindow (bytes_now (K.state desk.old)) window.old
         → Shows title look (bytes_now (K.state desk.old)) place) }
-    ensures window { OnOk result (IsTrue (K.state desk.old).tells
-        → IsWindow (bytes_now (K.state desk.old)) window.old → IsWindow (bytes_now (K.state desk.old)) window.new) }
+    ensures window { IsTrue (K.state desk.old).tells
+        → IsWindow (bytes_now (K.state desk.old)) window.old → IsWindow (bytes_now (K.state desk.old)) window.new }
     ensures rests { Rests (K.state desk.old) (K.state desk.new) }
     ensures fails { IfErr result (λ fault. FailsOnDisk fault (K.state desk.old) (K.state desk.new)) }
 {

@@ -34,7 +34,8 @@ fn refusal(fault: MakeFault, place: u64, body: &[u8]) -> LoadFault
 /// them is refused after those before it, with the offset and the value of its first byte; where it tells nothing,
 /// also where a record is missing or spoilt, and at the place where the bodies end before the journal's last gate.
 /// `Disk` comes only where the count of disk faults rose, `Memory` for want of memory, and `Old` never. After each the journal and
-/// its file are as before, and nothing is said of the value.
+/// its file are as before, and nothing is said of the value. The bodies are read through one window onto the file, so that
+/// a read of the disk serves all short ones that lie in it.
 pub fn read_back<K: Desk, R: Replay>(
     alloc: Global,
     journal: &mut Journal<K>,
@@ -47,10 +48,13 @@ pub fn read_back<K: Desk, R: Replay>(
     ensures fails { IfErr result (λ fault. FailsToReadBack K.state R.refuses fault journal.old journal.new.desk) }
     ensures reads { OnlyReads K.state journal.old journal.new }
 {
+    let Ok(mut window) = journal.window() else {
+        return Err(LoadFault::Disk);
+    };
     let mut body = Vec::new(alloc);
     let mut place = FIRST_PLACE;
     'reading: loop {
-        if !next_body(journal, place, &mut body)? {
+        if !next_body(journal, &mut window, place, &mut body)? {
             break 'reading;
         }
         match into.replay(alloc, &body) {

@@ -2,7 +2,7 @@ use Rattle.tf_desk.proofs.StateLemmas.{rests_on}
 use Rattle.tf_journal.proofs.reading.read_record.Goals as goal
 
 pub returns-in_ok-read_body-in-Ok-Body-clause-rests : goal.returns-in_ok-read_body-in-Ok-Body-clause-rests
-returns-in_ok-read_body-in-Ok-Body-clause-rests g c = rests_on c.look_at.ensures.rests c.read_body.ensures.rests
+returns-in_ok-read_body-in-Ok-Body-clause-rests g c = rests_on c.look_through.ensures.rests c.read_body.ensures.rests
 
 pub returns-in_err-read_body-in-Ok-Body-clause-rests : goal.returns-in_err-read_body-in-Ok-Body-clause-rests
-returns-in_err-read_body-in-Ok-Body-clause-rests g c = rests_on c.look_at.ensures.rests c.read_body.ensures.rests
+returns-in_err-read_body-in-Ok-Body-clause-rests g c = rests_on c.look_through.ensures.rests c.read_body.ensures.rests

@@ -11,7 +11,7 @@ returns-then-covers-clause-bytes g c = λ told shows.
     let lies = c.covers.ensures c.if-covers.true in
     ap (take 5) c.copy_from_slice.ensures.after
     ∙ take-take 5 (from + 5 - from) (drop from w.bytes) (omega arith)
-    ∙ covered (bytes_now (g.K.Desk.state c.args.desk.now)) w.bytes w.start w.count c.args.place shows.part lies.0 lies.1
+    ∙ covered 5 (bytes_now (g.K.Desk.state c.args.desk.now)) w.bytes w.start w.count c.args.place shows.part lies.0 lies.1
 
 pub returns-clause-bytes : goal.returns-clause-bytes
 returns-clause-bytes g c = λ told shows.

@@ -2,7 +2,7 @@ use Rattle.std.proofs.Common.{subst}
 use Rattle.tf_journal.specs.Format.{Held}
 use Rattle.tf_journal.specs.Reading.{OnlyReads}
 use Rattle.tf_journal.proofs.ReadingLemmas.{read_only}
-use Rattle.tf_journal.proofs.journal.Journal.body_at.Goals as goal
+use Rattle.tf_journal.proofs.journal.Journal.body_through.Goals as goal
 
 pub returns-clause-reads : goal.returns-clause-reads
 returns-clause-reads g c =
