@@ -5,7 +5,7 @@ use Rattle.tf_numbers.specs.Numbers.{Rises}
 use Rattle.tf_desk.proofs.CountLemmas.{rises_later}
 use Rattle.tf_journal.specs.Format.{Held}
 use Rattle.tf_journal.specs.Reading.{IsNext, IsNoRefusal}
-use Rattle.tf_journal.proofs.ReadingLemmas.{reads_none, reads_on}
+use Rattle.tf_journal.proofs.ReadingLemmas.{reads_on}
 use Rattle.tf_records.specs.Refusing.{HasRefusedBody}
 use Rattle.tf_records.proofs.ReplayLemmas.{found_behind, refuses_nothing, refuses_so, read_none, read_on, read_refused, read_out, read_ends}
 use Rattle.tf_records.proofs.reading.read_back.Goals as goal
@@ -60,8 +60,8 @@ reading-preserved g c =
       low = omega (arith, l.low);
       read = read_on g.K.Desk.state R.replayed _ _ _ _ _ _ items l.read l.reads
           (λ before rest told_now rest_now at. subst (λ (v : Bool). IsNext v rest items) c.if-not-branch.false (c.in_ok-next_body.ensures.found l.window before rest told_now rest_now at))
-          (λ before kept. subst (λ (b : List ℕ). R.replayed c.replay.new.self (before ++ b ∷ [])) c.deref.ensures.value (c.in-Ok.ensures.replayed before kept)) (search rules);
-      fixed = c.in-Ok.ensures.fixed ∙ l.fixed;
+          (λ before kept. subst (λ (b : List ℕ). R.replayed c.replay.new.self (before ++ b ∷ [])) c.deref.ensures.value (c.in-Ok-replay.ensures.replayed before kept)) (search rules);
+      fixed = c.in-Ok-replay.ensures.fixed ∙ l.fixed;
       window = c.in_ok-next_body.ensures.window l.window;
       reads = reads_on g.K.Desk.state _ _ _ l.reads c.in_ok-next_body.ensures.reads;
     }
