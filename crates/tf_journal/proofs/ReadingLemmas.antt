@@ -2,7 +2,7 @@
 use Rattle.std.proofs.Common.{◌≡◌, ℕ, List, [], ◌∷◌, ◌++◌, length, refl, sym, ◌∙◌, ap, subst, append-nil}
 use Rattle.std.specs.Prelude.{IsTrue}
 use Rattle.tf_desk.specs.State.{DeskState, bytes_now, Rests}
-use Rattle.tf_desk.proofs.StateLemmas.{on_disk_told, rests_none, rests_on, bytes_stay}
+use Rattle.tf_desk.proofs.StateLemmas.{on_disk_told, rests_on, bytes_stay}
 use Rattle.tf_journal.specs.Format.{Found, closed, body, bad, prefix_of, record_at, Held, LiesAs}
 use Rattle.tf_journal.specs.declared.title.Title.{Title}
 use Rattle.tf_journal.specs.Reading.{HasBodies, OnlyReads}
@@ -25,10 +25,6 @@ next_by title before (first ∷ others) size bytes place found lies at is =
     subst (λ (f : Found). NextBy f (first ∷ others)) (sym here) (others, refl)
 
 module _ {K : Type 0} (state : K → DeskState) where
-  -- nothing was read
-  pub reads_none : (j : Held K) → OnlyReads state j j
-  reads_none j = record { journal = refl; stays = λ told held rest. rest; rests = rests_none }
-
   -- the desk was read
   pub read_only : (journal : Held K) (desk : K) → Rests (state journal.desk) (state desk) → OnlyReads state journal (record journal { desk = desk })
   read_only journal desk rests = record {

@@ -33,9 +33,9 @@ fn refusal(fault: MakeFault, place: u64, body: &[u8]) -> LoadFault
 /// replayed before. Where the desk tells its content and the file lies as bodies, `NotABook` comes only where one of
 /// them is refused after those before it, with the offset and the value of its first byte; where it tells nothing,
 /// also where a record is missing or spoilt, and at the place where the bodies end before the journal's last gate.
-/// `Disk` comes only where the count of disk faults rose, `Memory` for want of memory, and `Old` never. After each the journal and
-/// its file are as before, and nothing is said of the value. The bodies are read through one window onto the file, so that
-/// a read of the disk serves all short ones that lie in it.
+/// `Disk` comes only where the count of disk faults rose, `Memory` for want of memory, and `Old` never. After each the
+/// journal and its file are as before, and nothing is said of the value. The bodies are read through one window onto
+/// the file, so that a read of the disk serves all short ones that lie in it.
 pub fn read_back<K: Desk, R: Replay>(
     alloc: Global,
     journal: &mut Journal<K>,
