@@ -6,6 +6,7 @@ pub mod StayLemmas
 pub mod ClaimLemmas
 pub mod KeptLemmas
 pub mod SeekingLemmas
+pub mod StartLemmas
 pub mod ReadingLemmas
 pub mod BoardLemmas
 pub mod LoadLemmas

@@ -1,13 +1,10 @@
 -- What a board tells those who look for a job.
 use Rattle.std.proofs.Common.{inl, inr, cond, take, map, zero, append-nil, ◌≡◌, ◌≤◌, ◌<◌, ℕ, suc, ◌+◌, Bool, true, false, List, [], ◌∷◌, length, Option, Some, None, refl, sym, ap, ◌∙◌, arith, length-append}
-use Rattle.std.specs.Prelude.{◌&&◌, ◌==◌, not, nat_lt, slice_get}
+use Rattle.std.specs.Prelude.{◌&&◌, ◌==◌, not, slice_get}
 use Rattle.std.specs.Option.{option_or}
-use Rattle.std.specs.List.{find, filter, flat_map, list_any, position, position_or_len}
+use Rattle.std.specs.List.{find, filter, flat_map, list_any, position_or_len}
 use Rattle.std.proofs.lemmas.List.Folds.{find-append}
-use Rattle.std.proofs.lemmas.Bool.{cases_lt, lt-ltb}
-use Rattle.std.proofs.lemmas.List.{length-map}
 use Rattle.std.proofs.lemmas.Option.{slice_get_cases}
-use Rattle.tf_numbers.proofs.ListLemmas.{take_whole}
 use Rattle.tf_states.specs.declared.priorities.Priority.{Priority}
 use Rattle.tf_board.specs.Board.{size_of, posted, details_in, free_as, is_free, is_there, is_listed, names_itself}
 use Rattle.tf_board.specs.Seeking.{is_takable, is_free_under}
@@ -97,7 +94,7 @@ never true = refl
 never false = refl
 
 -- a job that isn't free under a priority isn't to be taken there
-pub under_other : (jobs : List Job) (skip : List ℕ) (priority : Priority) (job : Job) → is_free_under priority (free_as job) ≡ false → (is_listed priority job && is_takable jobs skip job) ≡ false
+under_other : (jobs : List Job) (skip : List ℕ) (priority : Priority) (job : Job) → is_free_under priority (free_as job) ≡ false → (is_listed priority job && is_takable jobs skip job) ≡ false
 under_other jobs skip priority job = by job.standing refl
   where
     by : (s : Standing) → job.standing ≡ s → is_free_under priority (cond (is_free job.standing) (Some job.priority) None) ≡ false → (is_listed priority job && is_takable jobs skip job) ≡ false
@@ -107,7 +104,7 @@ under_other jobs skip priority job = by job.standing refl
     by standing.Trashed is other = ap (λ (s : Standing). is_listed priority job && (is_free s && not (list_any (λ n. n == job.number) skip) && names_itself jobs job)) is ∙ never (is_listed priority job)
 
 -- no job before the first that is free under a priority is to be taken there
-passed_over : (jobs : List Job) (skip : List ℕ) (priority : Priority) (some : List Job)
+pub passed_over : (jobs : List Job) (skip : List ℕ) (priority : Priority) (some : List Job)
     → find (λ job. is_listed priority job && is_takable jobs skip job) (take (position_or_len (is_free_under priority) (map free_as some)) some) ≡ None
 passed_over jobs skip priority [] = refl
 passed_over jobs skip priority (job ∷ some) = by (is_free_under priority (free_as job)) refl (passed_over jobs skip priority some)
@@ -125,34 +122,6 @@ passed_over jobs skip priority (job ∷ some) = by (is_free_under priority (free
         ap (λ (n : ℕ). find (λ job. is_listed priority job && is_takable jobs skip job) (take n (job ∷ some))) next
         ∙ ap (λ (b : Bool). cond b (Some job) (find (λ job. is_listed priority job && is_takable jobs skip job) (take before some))) (under_other jobs skip priority job is)
         ∙ rest
-
--- the place at which the first passes, if one does
-abbrev told : ℕ → ℕ → Option ℕ
-told at count = cond (nat_lt at count) (Some at) None
-
-pub none_before : (jobs : List Job) (skip : List ℕ) (priority : Priority) (free : List (Option Priority)) (start : ℕ) → free ≡ map free_as jobs → Some start ≡ position (is_free_under priority) free
-    → find (λ job. is_listed priority job && is_takable jobs skip job) (take start jobs) ≡ None
-none_before jobs skip priority free start are there =
-    let before = position_or_len (is_free_under priority) (map free_as jobs) in
-    let at : Some start ≡ told before (length (map free_as jobs)) = there ∙ ap (position (is_free_under priority)) are in
-    let same : before ≡ start = by (nat_lt before (length (map free_as jobs))) before start at in
-    ap (λ (n : ℕ). find (λ job. is_listed priority job && is_takable jobs skip job) (take n jobs)) (sym same) ∙ passed_over jobs skip priority jobs
-  where
-    by : (b : Bool) (m n : ℕ) → Some n ≡ cond b (Some m) None → m ≡ n
-    by true m n is = cc
-    by false m n is = absurd (cc)
-
-pub none_at_all : (jobs : List Job) (skip : List ℕ) (priority : Priority) (free : List (Option Priority)) → free ≡ map free_as jobs → None ≡ position (is_free_under priority) free
-    → None ≡ find (λ job. is_listed priority job && is_takable jobs skip job) jobs
-none_at_all jobs skip priority free are none =
-    let before = position_or_len (is_free_under priority) (map free_as jobs) in
-    let at : None ≡ told before (length (map free_as jobs)) = none ∙ ap (position (is_free_under priority)) are in
-    let past : length jobs ≤ before =
-    elim (cases_lt before (length (map free_as jobs))) [
-      | inl lt ↦ (let clash : None ≡ Some before = at ∙ ap (λ (b : Bool). cond b (Some before) None) (lt-ltb before (length (map free_as jobs)) lt) in absurd (cc))
-      | inr le ↦ omega (arith, le, length-map jobs free_as)
-    ] in
-    sym (ap (find (λ job. is_listed priority job && is_takable jobs skip job)) (sym (take_whole jobs before past)) ∙ passed_over jobs skip priority jobs)
 
 -- ---- details
 

@@ -1,12 +1,14 @@
 -- What a board tells those who look for a job. Lists of commands have the newest first.
-use Rattle.std.specs.Prelude.{◌≢◌, ℕ, suc, List, Bool, false, ◌&&◌, ◌==◌, not, if◌then◌else◌, Option, Some, None, option_map}
-use Rattle.std.specs.List.{find, filter, flat_map, list_any}
+use Rattle.std.specs.Prelude.{◌≢◌, ℕ, suc, List, Bool, false, ◌&&◌, ◌==◌, not, if◌then◌else◌, Option, Some, None, map, option_map}
+use Rattle.std.specs.List.{find, filter, flat_map, list_any, position, position_or_len, before_first}
 use Rattle.tf_values.specs.declared.value.Val.{Val}
 use Rattle.tf_states.specs.declared.priorities.Priority.{Priority}
+use Rattle.tf_states.specs.declared.priorities.Priority.TheVariants as priority
 use Rattle.tf_board.specs.Board.{details_in, id_in, same_priority, jobs_of, numbered, names_itself, place_of, is_free, is_there, is_listed, priorities}
 use Rattle.tf_board.specs.declared.commands.Command.{Command}
 use Rattle.tf_board.specs.declared.commands.Command.TheVariants as command
 use Rattle.tf_board.specs.declared.jobs.Job.{Job}
+use Rattle.tf_board.specs.declared.starts.Starts.{Starts}
 
 -- the number of a job
 abbrev pub number_in : Job → ℕ
@@ -16,6 +18,30 @@ number_in job = job.number
 abbrev pub is_free_under : Priority → Option Priority → Bool
 is_free_under priority None = false
 is_free_under priority (Some other) = same_priority other priority
+
+-- how many priorities are more urgent
+abbrev pub rank : Priority → ℕ
+rank priority.VeryHigh = 0
+rank priority.High = 1
+rank priority.Normal = 2
+rank priority.Low = 3
+rank priority.VeryLow = 4
+
+-- the first place that is free under each priority
+abbrev pub firsts : List (Option Priority) → List (Option ℕ)
+firsts free = map (λ p. position (is_free_under p) free) priorities
+
+-- the places before the first that is free under the most urgent priority
+abbrev pub before_urgent : List (Option Priority) → List (Option Priority)
+before_urgent free = before_first (is_free_under priority.VeryHigh) free
+
+-- the first of these that is free under each priority, and where they end
+abbrev pub starts_in : List (Option Priority) → Starts
+starts_in free = record { found = firsts (before_urgent free); end = position_or_len (is_free_under priority.VeryHigh) free }
+
+-- where the search under a priority begins: at the first of these that is free under it, else where they end
+abbrev pub start_under : List (Option Priority) → Priority → ℕ
+start_under free priority = position_or_len (is_free_under priority) (before_urgent free)
 
 -- nobody has the job, its id names it, and its number isn't among those to skip
 abbrev pub is_takable : List Job → List ℕ → Job → Bool

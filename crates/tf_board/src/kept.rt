@@ -1,13 +1,12 @@
 ghost use Rattle.std.specs.Prelude.{◌≡◌, ◌≢◌, ◌<◌, ◌+◌, ◌∷◌, ℕ, suc, option_map, ◌++◌, [], List, length, None, OnOk, IfOk, IfSome, MatchOption, vec_len, vec_capacity};
 ghost use Rattle.std.specs.List.{position};
 ghost use Rattle.tf_board.specs.Board.{IsCommand, same, posted as count_of, job_at, place_of as place_among, posted_with, refuses, past_of, past_in, IsTrueTo, HasRoom, IsChange, AreSideBySide};
-ghost use Rattle.tf_board.specs.Seeking.{is_free_under};
 ghost use Rattle.tf_board.specs.declared.commands.Command.{Command as ACommand};
 ghost use Rattle.tf_board.specs.declared.jobs.Job.{Job as AJob};
 
 use crate::commands::Command;
 use crate::ids::job_id;
-use crate::jobs::{Job, Standing, free_as, is_priority};
+use crate::jobs::{Job, Standing, free_as};
 use crate::rules::refusal_at;
 use std::alloc::{AllocError, Global};
 use std::snapshot::Snapshot;
@@ -56,23 +55,6 @@ fn keep_details(details: &mut Vec<Val>, command: Command)
             let _ = details.push(value);
         }
         Command::Apply { .. } => {}
-    }
-}
-
-/// The first place at which a job is free under the priority.
-pub fn first_under(free: &[Option<Priority>], priority: Priority) -> Option<usize>
-    ensures { result ≡ position (is_free_under priority) free.now }
-{
-    free.iter().position(|other| is_under(*other, priority))
-}
-
-/// Whether a job is free under this priority.
-fn is_under(free: Option<Priority>, priority: Priority) -> bool
-    ensures { result ≡ is_free_under priority free }
-{
-    match free {
-        Some(other) => is_priority(other, priority),
-        None => false,
     }
 }
 

@@ -15,6 +15,7 @@ mod messages;
 mod opening;
 mod recovering;
 mod rules;
+mod starts;
 
 pub use board::{Board, Owner};
 pub use commanding::board_command;

@@ -2,12 +2,13 @@ ghost use Rattle.std.specs.Prelude.{◌≡◌, ◌<◌, ◌^◌, ◌&&◌, Some,
 ghost use Rattle.std.specs.List.{find, filter};
 ghost use Rattle.tf_board.specs.Board.{AreOfBoard, AreSideBySide, is_listed as listed, numbered, names_itself as itself};
 ghost use Rattle.tf_board.specs.Does.{number_of as number_in};
-ghost use Rattle.tf_board.specs.Seeking.{number_among, is_takable as takable, free_job as found_free, number_named, id_at, details_at};
+ghost use Rattle.tf_board.specs.Seeking.{is_free_under, start_under, number_among, is_takable as takable, free_job as found_free, number_named, id_at, details_at};
 
 use super::Board;
 use super::listing::PRIORITIES;
-use crate::jobs::{Job, is_listed};
-use crate::kept::{Kept, first_under};
+use crate::jobs::{Job, is_priority};
+use crate::kept::Kept;
+use crate::starts::starts_in;
 use tf_desk::Desk;
 use tf_states::Priority;
 use tf_values::Val;
@@ -48,6 +49,16 @@ fn is_takable(kept: &Kept, skip: &[u64], job: &Job) -> bool
     names_itself(kept, job)
 }
 
+/// Whether a job that is free so is free under this priority.
+fn is_under(free: Option<Priority>, priority: Priority) -> bool
+    ensures { result ≡ is_free_under priority free }
+{
+    match free {
+        Some(other) => is_priority(other, priority),
+        None => false,
+    }
+}
+
 /// Whether the job at a place is listed among those of the priority, and may be taken.
 fn is_free_at(kept: &Kept, skip: &[u64], priority: Priority, place: usize) -> bool
     requires side_by_side { AreSideBySide kept.now }
@@ -55,19 +66,19 @@ fn is_free_at(kept: &Kept, skip: &[u64], priority: Priority, place: usize) -> bo
     ensures { (job : Job) → slice_get kept.now.jobs.items place ≡ Some job
         → result ≡ (listed priority job && takable kept.now.jobs.items skip.now job) }
 {
-    let job = &kept.jobs[place];
-    is_listed(priority, job) && is_takable(kept, skip, job)
+    if !is_under(kept.free[place], priority) {
+        return false;
+    }
+    is_takable(kept, skip, &kept.jobs[place])
 }
 
-/// The first job that is free under the priority and may be taken.
-fn first_free<'a>(kept: &'a Kept, skip: &[u64], priority: Priority) -> Option<&'a Job>
-    requires { AreSideBySide kept.now }
+/// The first job that is free under the priority and may be taken. The search begins at the start.
+fn first_free<'a>(kept: &'a Kept, skip: &[u64], priority: Priority, start: usize) -> Option<&'a Job>
+    requires side_by_side { AreSideBySide kept.now }
+    requires start { start ≡ start_under kept.now.free.items priority }
     ensures { option_copied result ≡ find (λ job. listed priority job && takable kept.now.jobs.items skip.now job)
         kept.now.jobs.items }
 {
-    let Some(start) = first_under(&kept.free, priority) else {
-        return None;
-    };
     for place in start..kept.jobs.len() {
         if is_free_at(kept, skip, priority, place) {
             return Some(&kept.jobs[place]);
@@ -77,12 +88,13 @@ fn first_free<'a>(kept: &'a Kept, skip: &[u64], priority: Priority) -> Option<&'
 }
 
 /// The same, of the jobs that are listed.
-fn free_at<'a>(kept: &'a Kept, skip: &[u64], priority: Priority) -> Option<&'a Job>
-    requires { AreSideBySide kept.now }
+fn free_at<'a>(kept: &'a Kept, skip: &[u64], priority: Priority, start: usize) -> Option<&'a Job>
+    requires side_by_side { AreSideBySide kept.now }
+    requires start { start ≡ start_under kept.now.free.items priority }
     ensures { option_copied result ≡ find (takable kept.now.jobs.items skip.now)
         (filter (listed priority) kept.now.jobs.items) }
 {
-    first_free(kept, skip, priority)
+    first_free(kept, skip, priority, start)
 }
 
 /// The first job that may be taken: by priority from the most urgent down, and then by number.
@@ -90,8 +102,9 @@ fn free_among(kept: &Kept, skip: &[u64]) -> Option<u64>
     requires { AreSideBySide kept.now }
     ensures { result ≡ number_among kept.now.jobs.items skip.now }
 {
+    let starts = starts_in(&kept.free);
     for priority in &PRIORITIES {
-        if let Some(job) = free_at(kept, skip, *priority) {
+        if let Some(job) = free_at(kept, skip, *priority, starts.of(*priority)) {
             return Some(job.number);
         }
     }

@@ -4,7 +4,8 @@ use Rattle.std.proofs.lemmas.Option.{slice_get-get_or}
 use Rattle.tf_board.specs.Board.{is_listed}
 use Rattle.tf_board.specs.Seeking.{is_takable}
 use Rattle.tf_board.specs.declared.jobs.Job.{Job}
-use Rattle.tf_board.proofs.SeekingLemmas.{sought_found, sought_on, none_before, none_at_all}
+use Rattle.tf_board.proofs.SeekingLemmas.{sought_found, sought_on}
+use Rattle.tf_board.proofs.StartLemmas.{none_before}
 use Rattle.tf_board.proofs.board.seeking.first_free.Goals as goal
 
 pub returns-then-is_free_at : goal.returns-then-is_free_at
@@ -23,7 +24,4 @@ loop-place-preserved c =
     sought_on p jobs c.loop-place.place (omega (arith, c.loop-place-test.true, c.len-place-end.ensures)) c.loop-place.invariant (λ job at. sym (c.is_free_at.ensures job at) ∙ c.if-is_free_at.false)
 
 pub loop-place-init : goal.loop-place-init
-loop-place-init c = none_before c.args.kept.now.jobs.items c.args.skip.now c.args.priority c.deref.result.now c.in-Some.start (c.deref.ensures.value ∙ c.requires.free) c.in-Some.ensures
-
-pub returns-in_default : goal.returns-in_default
-returns-in_default c = none_at_all c.args.kept.now.jobs.items c.args.skip.now c.args.priority c.deref.result.now (c.deref.ensures.value ∙ c.requires.free) c.in_default.ensures
+loop-place-init c = none_before c.args.kept.now.jobs.items c.args.skip.now c.args.priority c.args.kept.now.free.items c.args.start c.requires.side_by_side.free c.requires.start
