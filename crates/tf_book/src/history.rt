@@ -33,6 +33,16 @@ impl History {
         Ok(History { entries, bodies })
     }
 
+    /// Forgets all entries. The room stays.
+    pub fn clear(&mut self)
+        ensures entries { past_shown self.new.entries.items ≡ [] }
+        ensures bodies { self.new.bodies.items ≡ [] }
+        ensures all_room { HasAllRoom self.old → HasAllRoom self.new }
+    {
+        self.entries.clear();
+        self.bodies.clear();
+    }
+
     /// Makes room for an entry with a body of that length.
     pub fn reserve(&mut self, len: usize) -> Result<(), AllocError>
         requires { len ≤ 1048576 }

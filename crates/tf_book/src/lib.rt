@@ -8,6 +8,7 @@ mod history;
 mod holding;
 mod log;
 mod putting_back;
+mod room;
 mod shelf;
 mod showing;
 mod turn;
@@ -15,5 +16,6 @@ mod writing;
 
 pub use book::Book;
 pub use faults::{BookFault, Halt, ResetFault};
+pub use room::Room;
 pub use shelf::{Detail, Shelf};
 pub use turn::{Entered, Turn};

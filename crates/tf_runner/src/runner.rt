@@ -12,7 +12,7 @@ use std::alloc::Global;
 use std::sync::Arc;
 use tf_accept::accept;
 use tf_actions::Performer;
-use tf_book::{Book, Halt, Shelf};
+use tf_book::{Book, Halt, Room, Shelf};
 use tf_conductor::{Ran, Runner};
 use tf_engines::{How, RunEnd, serial};
 use tf_flow::Binds;
@@ -23,11 +23,12 @@ use tf_values::{Memory, Val};
 /// Runs jobs with one hand: the details of a job are the name of a flow file, which is one of those that were read
 /// beforehand. Nothing of a run is kept, and nothing of it is said. A run is done where its flow ended in SUCCESS; and
 /// the job is left where its details are no text, or name a file that wasn't read, is too long or gives no plan, and
-/// where the run ended otherwise or filled its book.
+/// where the run ended otherwise or filled its book. The room of the last run serves the next one.
 #[derive(Drop)]
 pub struct FileRunner<P> {
     hand: P,
     files: Arc<Vec<JobFile>, Global>,
+    room: Option<Room>,
 }
 
 impl<P> FileRunner<P> {
@@ -36,14 +37,19 @@ impl<P> FileRunner<P> {
         ensures hand { result.hand ≡ hand }
         ensures files { result.files ≡ files }
     {
-        FileRunner { hand, files }
+        FileRunner {
+            hand,
+            files,
+            room: None,
+        }
     }
 
     /// The hand back.
     pub fn into_hand(self) -> P
         ensures { result ≡ self.hand }
     {
-        let FileRunner { hand, files } = self;
+        let FileRunner { hand, files, room } = self;
+        drop(room);
         drop(files);
         hand
     }
@@ -65,26 +71,36 @@ impl<P: Performer> Runner for FileRunner<P> {
         let Some(file) = find(&self.files, name) else {
             return Ok(Ran::Left);
         };
-        run_content(alloc, &file.content, &mut self.hand)
+        run_content(alloc, &file.content, &mut self.hand, &mut self.room)
     }
 }
 
 /// Runs the flow of a file, if it was read whole.
-fn run_content<P: Performer>(alloc: Global, content: &Content, hand: &mut P) -> Result<Ran, Memory>
+fn run_content<P: Performer>(
+    alloc: Global,
+    content: &Content,
+    hand: &mut P,
+    room: &mut Option<Room>,
+) -> Result<Ran, Memory>
     ensures { IfOk result (ContentRunsTo P.gives content.now) }
 {
     match content {
-        Content::Bytes(bytes) => run_bytes(alloc, bytes, hand),
+        Content::Bytes(bytes) => run_bytes(alloc, bytes, hand, room),
         Content::TooLong => Ok(Ran::Left),
     }
 }
 
 /// Runs the flow that the bytes of a file give, if they give one.
-fn run_bytes<P: Performer>(alloc: Global, bytes: &[u8], hand: &mut P) -> Result<Ran, Memory>
+fn run_bytes<P: Performer>(
+    alloc: Global,
+    bytes: &[u8],
+    hand: &mut P,
+    room: &mut Option<Room>,
+) -> Result<Ran, Memory>
     ensures { IfOk result (BytesRunTo P.gives bytes.now) }
 {
     match accept(alloc, bytes, Binds::make(Vec::new(alloc)), false, None) {
-        Ok(machine) => run_plan(alloc, machine, hand),
+        Ok(machine) => run_plan(alloc, machine, hand, room),
         Err(reason) => {
             if reason.is_memory() {
                 return Err(Memory);
@@ -94,13 +110,22 @@ fn run_bytes<P: Performer>(alloc: Global, bytes: &[u8], hand: &mut P) -> Result<
     }
 }
 
-/// Runs the plan of a machine.
-fn run_plan<P: Performer>(alloc: Global, machine: Machine, hand: &mut P) -> Result<Ran, Memory>
+/// Runs the plan of a machine, in the room of the last run, if there was one.
+fn run_plan<P: Performer>(
+    alloc: Global,
+    machine: Machine,
+    hand: &mut P,
+    room: &mut Option<Room>,
+) -> Result<Ran, Memory>
     requires fresh { StandsFor machine [] }
     ensures { IfOk result (PlanRunsTo P.gives (plan_tree machine.plan)) }
 {
-    match Shelf::volatile(alloc, Mute::make()) {
-        Ok(shelf) => run_on(alloc, shelf, machine, hand),
+    let last = match room.take() {
+        Some(last) => last,
+        None => Room::make(alloc)?,
+    };
+    match Shelf::volatile_in(alloc, last, Mute::make()) {
+        Ok(shelf) => run_on(alloc, shelf, machine, hand, room),
         Err(_) => Err(Memory),
     }
 }
@@ -111,25 +136,32 @@ fn run_on<P: Performer>(
     shelf: Shelf<Mute>,
     machine: Machine,
     hand: &mut P,
+    room: &mut Option<Room>,
 ) -> Result<Ran, Memory>
     requires none { shelf.elements ≡ [] }
     requires fresh { StandsFor machine [] }
     ensures { IfOk result (PlanRunsTo P.gives (plan_tree machine.plan)) }
 {
     match shelf.start(machine, true) {
-        Ok(book) => run_book(alloc, book, hand),
+        Ok(book) => run_book(alloc, book, hand, room),
         Err(_) => Err(Memory),
     }
 }
 
-/// Runs the flow of a book that keeps nothing.
-fn run_book<P: Performer>(alloc: Global, book: Book<Mute>, hand: &mut P) -> Result<Ran, Memory>
+/// Runs the flow of a book that keeps nothing, and keeps its room.
+fn run_book<P: Performer>(
+    alloc: Global,
+    book: Book<Mute>,
+    hand: &mut P,
+    room: &mut Option<Room>,
+) -> Result<Ran, Memory>
     requires none { book.past ≡ [] }
     requires contents { book.contents ≡ begun_contents [] book.plan }
     requires sound { book.halt ≡ None }
     ensures { IfOk result (PlanRunsTo P.gives (plan_tree book.plan)) }
 {
-    let RunEnd { book: _, how } = serial(alloc, book, hand, None);
+    let RunEnd { book, how } = serial(alloc, book, hand, None);
+    *room = Some(book.into_room());
     match how {
         How::Ended(last) => Ok(ran_of(last)),
         How::Halted(halt) => left_by(halt),

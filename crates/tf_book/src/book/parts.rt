@@ -7,6 +7,7 @@ ghost use Rattle.tf_book.specs.Book.{bodies_with, size_of};
 
 use super::Book;
 use crate::faults::Halt;
+use crate::room::Room;
 use tf_desk::Desk;
 use tf_machine::Machine;
 
@@ -32,6 +33,23 @@ impl<K: Desk> Book<K> {
         ensures stands { StandsFor result.now self.now.past }
     {
         &self.machine
+    }
+
+    /// The room of the book, whose run is over, for another one.
+    pub fn into_room(self) -> Room {
+        let Book {
+            alloc: _,
+            journal: _,
+            machine: _,
+            history,
+            holding: _,
+            draft: _,
+            quiet: _,
+            halt: _,
+            failed: _,
+            limit: _,
+        } = self;
+        Room::of(history)
     }
 
     /// The desk back. Where the book wasn't halted and the desk tells its content, the file has what the book says, and a

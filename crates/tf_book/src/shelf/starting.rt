@@ -1,7 +1,6 @@
 ghost use Rattle.std.specs.Prelude.{◌≡◌, ◌≢◌, ◌⊎◌, [], List, length, true, false, IfOk, IfErr, IsTrue};
 ghost use Rattle.tf_desk.specs.State.{bytes_now, anything, Passes, GoesOn};
 ghost use Rattle.tf_details.specs.Elements.{Element};
-ghost use Rattle.tf_book.specs.Histories.{past_shown, HasAllRoom, HasDraftRoom};
 ghost use Rattle.tf_entries.specs.Plans.{IsPlan};
 ghost use Rattle.tf_journal.specs.Format.{desk_after, IsOpen, IsBody, LeavesBirth, is_unborn};
 ghost use Rattle.tf_journal.specs.declared.title.Title.TheVariants.{Book2 as book_title};
@@ -15,10 +14,9 @@ ghost use Rattle.tf_book.specs.declared.shelf.Place.TheVariants as place;
 use super::{Place, Shelf};
 use crate::book::Book;
 use crate::faults::BookFault;
-use crate::history::History;
 use crate::holding::Holding;
 use crate::writing::Draft;
-use std::alloc::{AllocError, Global};
+use std::alloc::Global;
 use tf_desk::Desk;
 use tf_details::Gathering;
 use tf_entries::{Head, encode_plan, put_head};
@@ -26,18 +24,6 @@ use tf_flow::Plan;
 use tf_journal::{AppendFault, Journal, JournalFault, Title};
 use tf_machine::Machine;
 use tf_values::Memory;
-
-/// An empty history, and a draft, with room for all that a book may record.
-fn room(alloc: Global) -> Result<(History, Draft), AllocError>
-    ensures none { IfOk result (λ made. past_shown made.0.entries.items ≡ []) }
-    ensures bodies { IfOk result (λ made. made.0.bodies.items ≡ []) }
-    ensures room { IfOk result (λ made. HasAllRoom made.0) }
-    ensures draft { IfOk result (λ made. HasDraftRoom made.1) }
-{
-    let history = History::with_room(alloc)?;
-    let draft = Draft::make(alloc)?;
-    Ok((history, draft))
-}
 
 /// The body of a new detail.
 fn detail(alloc: Global, plan: &Plan) -> Result<Vec<u8>, Memory>
@@ -149,15 +135,17 @@ impl<K: Desk> Shelf<K> {
         let Ok(body) = detail(alloc, plan) else {
             return Err((place.into_desk(), BookFault::Memory));
         };
-        let Ok((history, draft)) = room(alloc) else {
+        let Ok(draft) = Draft::make(alloc) else {
             return Err((place.into_desk(), BookFault::Memory));
         };
         let Gathering {
             details: _,
             marks,
             number: _,
-            kept: _,
+            kept: mut history,
         } = read;
+        // What was read is of another detail. Its room is taken over.
+        history.clear();
         let mut holding = Holding { number, marks };
         match add(alloc, place, &body) {
             Ok(journal) => {

@@ -12,11 +12,11 @@ use Rattle.tf_book.proofs.shelf.Shelf.start.Goals as goal
 pub returns-in_default-clause-goes : goal.returns-in_default-clause-goes
 returns-in_default-clause-goes g c = goes_nowhere g.K.Desk.state _ _ (c.into_desk.ensures ∙ ap (λ (s : ShelfValue _). desk_of s) c.self.view_is)
 
-pub returns-in_default-room-clause-crash : goal.returns-in_default-room-clause-crash
-returns-in_default-room-clause-crash g c = λ told. passes_nowhere g.K.Desk.state _ _ (c.into_desk-in_default-room.ensures ∙ ap (λ (s : ShelfValue _). desk_of s) c.self.view_is)
+pub returns-in_default-make-clause-crash : goal.returns-in_default-make-clause-crash
+returns-in_default-make-clause-crash g c = λ told. passes_nowhere g.K.Desk.state _ _ (c.into_desk-in_default-make.ensures ∙ ap (λ (s : ShelfValue _). desk_of s) c.self.view_is)
 
-pub returns-in_default-room-clause-goes : goal.returns-in_default-room-clause-goes
-returns-in_default-room-clause-goes g c = goes_nowhere g.K.Desk.state _ _ (c.into_desk-in_default-room.ensures ∙ ap (λ (s : ShelfValue _). desk_of s) c.self.view_is)
+pub returns-in_default-make-clause-goes : goal.returns-in_default-make-clause-goes
+returns-in_default-make-clause-goes g c = goes_nowhere g.K.Desk.state _ _ (c.into_desk-in_default-make.ensures ∙ ap (λ (s : ShelfValue _). desk_of s) c.self.view_is)
 
 pub begin-requires : goal.begin-requires
 begin-requires g c =
@@ -29,10 +29,10 @@ invariant_of-result g c =
     let body : c.deref.result.now ≡ detail_body plan = c.deref.ensures.value ∙ c.in-Ok.ensures.body ∙ ap detail_body is in
     let adds = subst (λ (b : List ℕ). AddsTo g.K.Desk.state c.self.inside.place (elements_in c.self.inside.read) b c.in-Ok-add.journal) body (c.in-Ok-add.ensures.adds _ c.self.invariant.0) in
     let held = c.begin.ensures.held ∙ ap (with_detail (elements_in c.self.inside.read)) c.plan.ensures.is in (
-      c.in-Ok-room.ensures.room,
-      c.in-Ok-room.ensures.draft,
+      c.clear.ensures.all_room c.self.invariant.5.room,
+      c.in-Ok-make.ensures,
       c.begin.ensures.all_room (record { marks = c.self.invariant.3 }),
-      begun_sound g.K.Desk.state (elements_in c.self.inside.read) c.args.machine _ _ _ c.in-Ok-add.journal c.args.quiet c.in-Ok-room.ensures.bodies c.in-Ok-room.ensures.none
+      begun_sound g.K.Desk.state (elements_in c.self.inside.read) c.args.machine _ _ _ c.in-Ok-add.journal c.args.quiet c.clear.ensures.bodies c.clear.ensures.entries
           (begun_held c.begin.new.self _ plan (c.begin.ensures.number ∙ c.count-number.ensures.details _ c.self.invariant.2) held) c.self.invariant.1
           (may_begin _ plan (subst (λ (s : ShelfValue _). HasPlaceFor s.elements plan) (sym c.self.view_is) c.requires.place) (subst IsAcceptedPlan is c.root-root.ensures.accepted)
           (subst IsPlan is c.in-Ok.ensures.is_plan) (c.plan-plan.ensures.compiles, c.plan-plan.ensures.complete)) c.requires.fresh adds.has,

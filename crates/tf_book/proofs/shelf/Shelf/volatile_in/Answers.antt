@@ -1,7 +1,7 @@
 use Rattle.std.proofs.Common.{sym, ap, ◌∙◌}
 use Rattle.tf_book.specs.Book.{listed}
 use Rattle.tf_book.proofs.ShelfLemmas.{no_elements, holds_none}
-use Rattle.tf_book.proofs.shelf.Shelf.volatile.Goals as goal
+use Rattle.tf_book.proofs.shelf.Shelf.volatile_in.Goals as goal
 
 pub invariant_of-result : goal.invariant_of-result
 invariant_of-result g c =
