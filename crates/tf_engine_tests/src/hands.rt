@@ -145,7 +145,7 @@ fn a_hand_without_memory_halts_the_book(rt: HostRuntime) -> Result<(), Fail> {
 
 /// The numbers that the desk's call has which writes the end of the task: where the other hand takes a turn meanwhile,
 /// it asks before whether to stop.
-const ENDS: [u64; 2] = [25, 26];
+const ENDS: [u64; 2] = [24, 25];
 
 #[test]
 fn an_end_that_is_not_written_halts_the_book(rt: HostRuntime) -> Result<(), Fail> {
