@@ -9,7 +9,9 @@ import threading
 import time
 
 ROOT = os.path.dirname(os.path.dirname(os.path.abspath(__file__)))
-PROGRAM = os.path.join(ROOT, "out", "taskflow")
+# A word that is no option tells another program, for a trial.
+GIVEN = next((os.path.realpath(word) for word in sys.argv[1:] if not word.startswith("-")), None)
+PROGRAM = GIVEN or os.path.join(ROOT, "out", "taskflow")
 NAME = os.path.basename(sys.argv[0])
 
 misses = []

@@ -1,0 +1,174 @@
+"""Where runs are kept: books, the failures beside them, and the folder of an engine."""
+
+import contextlib
+import fcntl
+import json
+import os
+import shutil
+import tempfile
+import threading
+import time
+import weakref
+
+from taskflow.persistence import models
+from taskflow.types import failure
+
+_PREFIX = "verified-taskflow-"
+STOP_TEXT = b"suspended by verified_taskflow\n"
+
+
+class Book(models.LogBook):
+    """A book of the program in the place of a logbook: `taskflow.engines.load(flow, engine="verified", book=Book(path))`.
+
+    `path` (str or PathLike) is the file; it is made by the first run. A path may stand in its place where this package was
+    imported before."""
+
+    def __init__(self, path):
+        super().__init__(os.path.basename(os.fspath(path)))
+        self.path = os.path.abspath(os.fspath(path))
+
+    def add(self, flow_detail):
+        super().add(flow_detail)
+        flow_detail.verified_book = self.path
+
+    def find(self, flow_uuid):
+        return super().find(flow_uuid)
+
+
+class Home:
+    """A folder of mode 0700 for one flow detail: the flow file, the socket, what the program says on standard error, and the book
+    where none is kept. It is removed with this object. A lock tells that its process lives: folders that killed processes left are removed by
+    the next one."""
+
+    def __init__(self):
+        base = "/dev/shm" if os.access("/dev/shm", os.W_OK) else tempfile.gettempdir()
+        _sweep(base)
+        self.folder = tempfile.mkdtemp(prefix=_PREFIX, dir=base)
+        lock = open(self.path("lock.new"), "w")
+        fcntl.flock(lock, fcntl.LOCK_EX)
+        os.rename(lock.name, self.path("lock"))
+        self.remove = weakref.finalize(self, _remove, self.folder, lock, os.getpid())
+
+    def path(self, name):
+        """The path (str) of a file in the folder."""
+        return os.path.join(self.folder, name)
+
+
+def _remove(folder, lock, process):
+    if os.getpid() == process:
+        shutil.rmtree(folder, ignore_errors=True)
+    lock.close()
+
+
+def _sweep(base):
+    for name in os.listdir(base):
+        if name.startswith(_PREFIX):
+            with contextlib.suppress(OSError):
+                _sweep_folder(os.path.join(base, name))
+
+
+def _sweep_folder(folder):
+    """Removes a folder whose process is gone: nobody has its lock, or it got none within a minute."""
+    if not os.path.exists(os.path.join(folder, "lock")):
+        if time.time() - os.stat(folder).st_mtime > 60:
+            shutil.rmtree(folder, ignore_errors=True)
+        return
+    with open(os.path.join(folder, "lock")) as lock:
+        fcntl.flock(lock, fcntl.LOCK_EX | fcntl.LOCK_NB)
+        shutil.rmtree(folder, ignore_errors=True)
+
+
+class Failures:
+    """The failures of a book's tasks. The book has of each its number, counted from 1; the file BOOK`.failures` beside it has a line
+    of JSON for each, which is on the disk before the book has the number. Without a path they stay in this process.
+
+    A failure of this process is kept as it is, with its traceback; of another process's there are the type, the message and the
+    traceback as text."""
+
+    def __init__(self, path=None):
+        self._path = path
+        self._here = {}
+        self._lines = []
+        self._size = 0
+        self._lock = threading.Lock()
+
+    def _read(self):
+        """The lines of the file as it is now: other processes add to it while none of this one's flows runs."""
+        if self._path is not None and os.path.exists(self._path) and os.path.getsize(self._path) != self._size:
+            with open(self._path, "rb") as file:
+                text = file.read()
+            self._lines, self._size = text.splitlines(), len(text)
+        return self._lines
+
+    def add(self, fault):
+        """Keeps a failure, and gives its number (int)."""
+        with self._lock:
+            if self._path is None:
+                self._lines.append(b"")
+            else:
+                self._write(_line_of(fault), b"\n" if self._read() and not _ends_whole(self._path) else b"")
+            number = len(self._lines)
+            self._here[number] = fault
+            return number
+
+    def _write(self, line, front):
+        with open(self._path, "ab") as file:
+            file.write(front + line + b"\n")
+            file.flush()
+            os.fsync(file.fileno())
+            self._size = file.tell()
+        self._lines.append(line)
+
+    def get(self, number):
+        """The failure of a number, or None where its line is lost."""
+        if number in self._here:
+            return self._here[number]
+        with self._lock:
+            lines = self._read()
+        if not 1 <= number <= len(lines):
+            return None
+        try:
+            self._here[number] = failure.Failure.from_dict(json.loads(lines[number - 1]))
+        except (ValueError, KeyError, TypeError):
+            return None
+        return self._here[number]
+
+
+def _line_of(fault):
+    try:
+        return json.dumps(fault.to_dict()).encode()
+    except (TypeError, ValueError):
+        return json.dumps(fault.to_dict(include_args=False)).encode()
+
+
+def _ends_whole(path):
+    with open(path, "rb") as file:
+        file.seek(-1, os.SEEK_END)
+        return file.read(1) == b"\n"
+
+
+class StopFile:
+    """The file that asks a run to stop: BOOK`.stop`. What this package made is told by its text, so that one which a killed process
+    left doesn't stop the next run, while a file of somebody else's does."""
+
+    def __init__(self, book):
+        self._path = book + ".stop"
+
+    def make(self):
+        """Asks the run to stop."""
+        try:
+            handle = os.open(self._path, os.O_WRONLY | os.O_CREAT | os.O_EXCL, 0o600)
+        except FileExistsError:
+            return
+        with os.fdopen(handle, "wb") as file:
+            file.write(STOP_TEXT)
+
+    def clear(self):
+        """Removes the file where this package made it."""
+        try:
+            with open(self._path, "rb") as file:
+                ours = file.read(len(STOP_TEXT) + 1) == STOP_TEXT
+        except OSError:
+            return
+        if ours:
+            os.unlink(self._path)

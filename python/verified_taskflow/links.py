@@ -1,0 +1,68 @@
+"""Sockets at addresses (`unix:PATH`, `tcp:127.0.0.1:PORT`), and frames: a length in four bytes, the greatest first, and JSON."""
+
+import json
+import os
+import socket
+
+LIMIT = 67_108_864
+"""The most bytes of a frame's JSON."""
+
+
+def dial(address):
+    """A link to who listens at an address. Raises OSError where nobody does, ValueError where it is no address."""
+    kind, _, where = address.partition(":")
+    if kind == "unix":
+        link = socket.socket(socket.AF_UNIX)
+        try:
+            link.connect(where)
+        except OSError:
+            link.close()
+            raise
+        return link
+    if kind != "tcp":
+        raise ValueError("no address: %r" % address)
+    host, _, port = where.rpartition(":")
+    link = socket.create_connection((host, int(port)))
+    link.setsockopt(socket.IPPROTO_TCP, socket.TCP_NODELAY, 1)
+    return link
+
+
+def listen(address):
+    """A socket that listens at an address; that of a path has the mode 0600. Raises OSError where it can't."""
+    kind, _, where = address.partition(":")
+    if kind == "unix":
+        door = socket.socket(socket.AF_UNIX)
+        door.bind(where)
+        os.chmod(where, 0o600)
+    else:
+        host, _, port = where.rpartition(":")
+        door = socket.create_server((host, int(port)))
+    door.listen()
+    return door
+
+
+def say(link, message):
+    """Sends a message (a dict)."""
+    body = json.dumps(message, ensure_ascii=False, separators=(",", ":"), sort_keys=True).encode()
+    link.sendall(len(body).to_bytes(4, "big") + body)
+
+
+def hear(link):
+    """The next message, or None at the link's end between two. Raises EOFError inside one, ValueError for what is none."""
+    front = _take(link, 4)
+    if not front:
+        return None
+    length = int.from_bytes(front, "big")
+    if len(front) == 4 and not 0 < length <= LIMIT:
+        raise ValueError("a frame of %d bytes" % length)
+    body = _take(link, length) if len(front) == 4 else b""
+    if len(body) < length or len(front) < 4:
+        raise EOFError("the link ended inside a frame")
+    return json.loads(body)
+
+
+def _take(link, count):
+    came = bytearray()
+    while len(came) < count and (piece := link.recv(min(count - len(came), 65_536))):
+        came += piece
+    return bytes(came)

@@ -1,0 +1,121 @@
+"""The program `taskflow`: where it is, how it is started, and what its statuses mean."""
+
+import ctypes
+import os
+import shutil
+import signal
+import subprocess
+import time
+
+from taskflow import exceptions
+
+from .refusals import Broken, Unsupported
+
+VARIABLE = "TASKFLOW_PROGRAM"
+"""The environment variable that may name the program's path."""
+
+_INSTALLED = "/usr/lib/taskflow/taskflow"
+_SET_DEATH_SIGNAL = 1
+_SHARED_FILES = 0x400
+_CLONE = {"x86_64": 56, "aarch64": 220}
+_library = ctypes.CDLL(None)
+
+SUCCESS, REFUSED, DISK_FAULT, REVERTED, FAILURE, SUSPENDED, FORBIDDEN = 0, 4, 5, 10, 11, 12, 14
+ENDS = (SUCCESS, REVERTED, FAILURE, SUSPENDED)
+
+
+def find(given=None):
+    """The path (str) of the program: the one that is given, that of the variable, the installed one, or `taskflow` along PATH.
+
+    Raises Broken where there is none."""
+    for path in (given, os.environ.get(VARIABLE), _INSTALLED, shutil.which("taskflow")):
+        if path and os.access(path, os.X_OK) and not os.path.isdir(path):
+            return os.path.abspath(path)
+        if path and path is not _INSTALLED:
+            break
+    raise Broken("there is no program taskflow: install it, or name it by program=.. or by %s" % VARIABLE)
+
+
+def start(words, errors, keep):
+    """Starts the program with these words (a list of str). Its standard error goes to the file `errors`, and it inherits the file
+    descriptors `keep`. It is killed when the thread that started it ends, so that it never outlives this process."""
+    parent = os.getpid()
+
+    def die_with_parent():
+        _library.prctl(_SET_DEATH_SIGNAL, signal.SIGKILL)
+        if os.getppid() != parent:
+            os._exit(1)
+
+    with open(errors, "wb") as file:
+        return subprocess.Popen(words, stdin=subprocess.DEVNULL, stdout=subprocess.PIPE, stderr=file, pass_fds=keep,
+                                preexec_fn=die_with_parent, bufsize=0)
+
+
+def ask(words):
+    """Runs the program to its end, and gives its status and the lines (list of str) that it said."""
+    done = subprocess.run(words, stdin=subprocess.DEVNULL, stdout=subprocess.PIPE, stderr=subprocess.PIPE)
+    return done.returncode, done.stdout.decode().splitlines(), done.stderr.decode("utf-8", "replace")
+
+
+class Holder:
+    """A process that shares this one's file descriptors and does nothing else. Where this process is killed the descriptors stay open until
+    the holder is killed too, and that is after the program, which was started before it: so no link of the program ends before the program
+    does, however early the kill comes. On machines whose number of the system call isn't known here there is none.
+
+    It is made by the system call alone, since a copy of Python that ran on would be another process of the user's; it takes no signal, and
+    makes two calls."""
+
+    def __init__(self):
+        self._child = None
+        number = _CLONE.get(os.uname().machine)
+        if number is None:
+            return
+        parent, calls = os.getpid(), ctypes.PyDLL(None)
+        call, set_death, parent_of, leave, wait = calls.syscall, calls.prctl, calls.getppid, calls._exit, calls.pause
+        before = signal.pthread_sigmask(signal.SIG_BLOCK, signal.valid_signals())
+        child = call(number, _SHARED_FILES | signal.SIGCHLD, 0, 0, 0, 0)
+        if child == 0:
+            set_death(_SET_DEATH_SIGNAL, signal.SIGKILL)
+            if parent_of() != parent:
+                leave(1)
+            while True:
+                wait()
+        signal.pthread_sigmask(signal.SIG_SETMASK, before)
+        self._child = child if child > 0 else None
+
+    def end(self):
+        """Ends it."""
+        if self._child is not None:
+            os.kill(self._child, signal.SIGKILL)
+            os.waitpid(self._child, 0)
+            self._child = None
+
+
+WAITS = (0.01, 0.05, 0.2, 0.5, 1, 1, 2)
+"""How long, in seconds, a book is waited for that another program has: that of a process that was just killed ends once its last
+write is on the disk."""
+
+
+def ask_when_free(words):
+    """The same of a command that writes a book, once no other program has it; after WAITS what it said last."""
+    for wait in WAITS:
+        status, lines, errors = ask(words)
+        if status != DISK_FAULT or any(line[:1].isdigit() for line in lines):
+            break
+        time.sleep(wait)
+    return status, lines, errors
+
+
+def fault_of(name, status, said, errors):
+    """What a status that isn't the end of a run of the flow `name` is raised as: `said` is the program's last line, `errors` its
+    standard error."""
+    text = "%s%s" % (said or "the program ended with the status %d" % status, ": " + errors.strip() if errors.strip() else "")
+    if status < 0:
+        return Broken("the program was ended by signal %d; the book has what was done, and run() goes on with it" % -status)
+    if status == REFUSED:
+        return Unsupported(name, "the program refuses its flow file: %s" % said)
+    if status in (DISK_FAULT, 6, 13, 16):
+        return exceptions.StorageFailure(text)
+    if status == FORBIDDEN:
+        return exceptions.InvalidState(text)
+    return Broken(text)

@@ -1,0 +1,94 @@
+"""Tasks that workers in other processes perform: this process asks them for what the program asks of it."""
+
+import json
+import queue
+import sys
+
+from taskflow import exceptions
+from taskflow.types import failure
+
+from . import links
+from .names import is_name
+from .refusals import Unsupported
+
+
+def refuse_far(plan):
+    """Raises Unsupported where a task can't be named to another process: its class by a module, and its arguments by names."""
+    for atom in plan.atoms:
+        if not atom.is_retry:
+            kind = type(atom.thing)
+            if getattr(sys.modules.get(kind.__module__), kind.__qualname__, None) is not kind:
+                raise Unsupported(atom.name, "its class %s isn't one that a worker finds as module:Class" % kind.__qualname__)
+            for name in atom.thing.rebind:
+                if not is_name(name):
+                    raise Unsupported(atom.name, "its argument %s can't be named to a worker" % name)
+
+
+class Relays:
+    """Links to workers at addresses, each of which performs one task at a time."""
+
+    def __init__(self, addresses, texts):
+        self._texts = texts
+        self._free = queue.SimpleQueue()
+        self._all = []
+        try:
+            for address in addresses:
+                self._all.append((address, links.dial(address)))
+        except OSError as fault:
+            self.close()
+            raise exceptions.ExecutionFailure("there is no worker at %s: %s" % (address, fault)) from fault
+        for pair in self._all:
+            self._free.put((1,) + pair)
+
+    def close(self):
+        """Ends the links."""
+        for _, link in self._all:
+            link.close()
+
+    def ask(self, task, what, kwargs):
+        """What `execute` or `revert` (`what`) of a task gives for these arguments at a worker, or its failure."""
+        number, address, link = self._free.get()
+        try:
+            return self._ask(link, number, task, what, kwargs)
+        except (OSError, EOFError, ValueError) as fault:
+            return _failure("%s was lost at the worker %s: %s" % (task.name, address, fault))
+        finally:
+            self._free.put((number + 1, address, link))
+
+    def _ask(self, link, number, task, what, kwargs):
+        given = dict(kwargs)
+        failures = given.pop("flow_failures", None)
+        try:
+            pairs = [[name, self._texts.text_of(value, None, "the argument %s of %s" % (name, task.name))]
+                     for name, value in given.items() if not isinstance(value, failure.Failure)]
+        except TypeError:
+            return failure.Failure()
+        if failures is not None:
+            pairs.append(["flow_failures", json.dumps({name: one.to_dict(include_args=False) for name, one in failures.items()})])
+        if isinstance(given.get("result"), failure.Failure):
+            pairs.append(["result", _text_of(given["result"])])
+        kind = type(task)
+        words = ["%s:%s" % (kind.__module__, kind.__qualname__), what, task.name]
+        links.say(link, {"action": "execute", "args": pairs, "id": number, "kind": "command", "words": words})
+        if links.hear(link) != {"id": number, "state": "RUNNING"}:
+            raise ValueError("it didn't say that the task runs")
+        reply = links.hear(link)
+        if reply is None or reply.get("id") != number:
+            raise ValueError("it gave no outcome")
+        return self._outcome(task, reply)
+
+    def _outcome(self, task, reply):
+        if reply.get("state") != "SUCCESS":
+            return _failure("%s failed at its worker: %s" % (task.name, " ".join(map(str, reply.get("failure", ())))))
+        text = reply["result"]
+        if text.startswith("failure "):
+            return failure.Failure.from_dict(json.loads(text[8:]))
+        return self._texts.value_of(text)[0]
+
+
+def _text_of(fault):
+    return "failure " + json.dumps(fault.to_dict(include_args=False))
+
+
+def _failure(text):
+    return failure.Failure.from_exception(exceptions.ExecutionFailure(text))
