@@ -9,7 +9,7 @@ use tf_commands::{Outside, ProgramCrew, taskflow};
 use tf_desk::FileDesk;
 use tf_ports::{Folder, SocketDialer, SocketDoor};
 use tf_report::OUT_OF_MEMORY;
-use tf_words::Word;
+use tf_words::{Word, access_of};
 
 fn main(rt: HostRuntime) -> ExitCode {
     let alloc = rt.alloc();
@@ -24,7 +24,7 @@ fn main(rt: HostRuntime) -> ExitCode {
         }
     };
     let outside = Outside {
-        desk: FileDesk::make(rt),
+        desk: FileDesk::make(rt, access_of(&words)),
         sources: Folder::make(rt),
         crew: ProgramCrew::make(rt, SocketDialer::make(rt)),
         door: SocketDoor::make(rt),

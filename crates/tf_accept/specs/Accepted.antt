@@ -39,9 +39,9 @@ pub record GivesWhole (sets : List Bind) (defer : Bool) (bytes : List ℕ) (plan
   pub compiles : tree_refusal plan.root (outline_in plan) ≡ None
   pub provided : missing_symbol (outline_in plan) ≡ None
 
--- the plan is what another has up to the target of a name: of its root, a graph flow, the item of that name and those that reach it by links,
--- with the links between them; it compiles and misses no symbol; links, order, scopes and deciders are those of the other, and no item of its
--- root that is left out comes before one that is kept
+-- the plan is what another has up to the target of a name: of its root, a graph flow, the item of that name and those
+-- that reach it by links, with the links between them; it compiles and misses no symbol; links, order, scopes and
+-- deciders are those of the other, and no item of its root that is left out comes before one that is kept
 pub record IsUpTo (whole : PlanTree) (name : List ℕ) (plan : PlanTree) : Type 0 where
   pub unrefused : target_refusal whole name ≡ None
   pub kept : IsTargetOf whole name plan
@@ -51,9 +51,11 @@ pub record IsUpTo (whole : PlanTree) (name : List ℕ) (plan : PlanTree) : Type 
   pub apart : LeavesNoneBefore whole name
 
 -- they give it to run: whole where no target is named, else what the plan that they give whole has up to the target
-pub data GivesPlan (sets : List Bind) (defer : Bool) (target : Option (List ℕ)) (bytes : List ℕ) (plan : PlanTree) : Type 0 where
+pub data GivesPlan (sets : List Bind) (defer : Bool) (target : Option (List ℕ)) (bytes : List ℕ)
+    (plan : PlanTree) : Type 0 where
   all_of_it : target ≡ None → GivesWhole sets defer bytes plan → GivesPlan sets defer target bytes plan
-  up_to : (whole : PlanTree) (name : List ℕ) → target ≡ Some name → GivesWhole sets defer bytes whole → IsUpTo whole name plan → GivesPlan sets defer target bytes plan
+  up_to : (whole : PlanTree) (name : List ℕ) → target ≡ Some name → GivesWhole sets defer bytes whole
+      → IsUpTo whole name plan → GivesPlan sets defer target bytes plan
 
 -- nothing stands against the target of a plan, where one is named
 abbrev pub MayTarget : Option (List ℕ) → PlanTree → Type 0
@@ -61,17 +63,23 @@ MayTarget None plan = Unit {0}
 MayTarget (Some name) plan = target_refusal plan name ≡ None
 
 -- this is the first reason why they give none
-pub data GivesNone (sets : List Bind) (defer : Bool) (target : Option (List ℕ)) (bytes : List ℕ) : Refusal → Type 0 where
+pub data GivesNone (sets : List Bind) (defer : Bool) (target : Option (List ℕ)) (bytes : List ℕ) : Refusal
+    → Type 0 where
   -- they spell none, or one that passes a limit or breaks a rule
-  misspelled : (fault : FileFault) → is_memory_fault fault ≡ false → IsFirstReason (flow_of bytes sets defer) fault → GivesNone sets defer target bytes (refusal.File fault)
+  misspelled : (fault : FileFault) → is_memory_fault fault ≡ false → IsFirstReason (flow_of bytes sets defer) fault
+      → GivesNone sets defer target bytes (refusal.File fault)
   -- the plan that they spell doesn't compile
-  uncompiled : (plan : PlanTree) (reason : CompileRefusal) → Spells sets defer bytes plan → tree_refusal plan.root (outline_in plan) ≡ Some reason
+  uncompiled : (plan : PlanTree) (reason : CompileRefusal) → Spells sets defer bytes plan
+      → tree_refusal plan.root (outline_in plan) ≡ Some reason
       → GivesNone sets defer target bytes (refusal.Compile (compile_fault_of reason))
   -- it compiles, and nobody gives one of its atoms a symbol
-  unprovided : (plan : PlanTree) (missing : Missing) → Spells sets defer bytes plan → tree_refusal plan.root (outline_in plan) ≡ None
-      → missing_symbol (outline_in plan) ≡ Some missing → GivesNone sets defer target bytes (refusal.Scope (missing_fault missing))
+  unprovided : (plan : PlanTree) (missing : Missing) → Spells sets defer bytes plan
+      → tree_refusal plan.root (outline_in plan) ≡ None
+      → missing_symbol (outline_in plan) ≡ Some missing
+      → GivesNone sets defer target bytes (refusal.Scope (missing_fault missing))
   -- they give it whole, and the target is refused
-  untargeted : (plan : PlanTree) (name : List ℕ) (fault : TargetFault) → target ≡ Some name → GivesWhole sets defer bytes plan
+  untargeted : (plan : PlanTree) (name : List ℕ) (fault : TargetFault) → target ≡ Some name
+      → GivesWhole sets defer bytes plan
       → target_refusal plan name ≡ Some fault → GivesNone sets defer target bytes (refusal.Target fault)
 
 -- the reason that a refusal of a target is

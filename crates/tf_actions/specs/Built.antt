@@ -151,7 +151,9 @@ is_below (negsuc a) (negsuc b) = nat_lt b a
 
 -- the first integer where it isn't below the second, and else a failure that shows the two
 abbrev pub not_below : ℤ → ℤ → Outcome
-not_below a b = if is_below a b then outcome.Failed (failure.Raised (signed_decimal a ++ codes " below " ++ signed_decimal b)) else outcome.Gave (value.Int a)
+not_below a b =
+    if is_below a b then outcome.Failed (failure.Raised (signed_decimal a ++ codes " below " ++ signed_decimal b))
+    else outcome.Gave (value.Int a)
 
 -- the same, where the second argument is an integer
 abbrev pub not_below_by : ℤ → Pair → Val → Outcome

@@ -73,8 +73,8 @@ abbrev pub runs_program : Undo → Bool
 runs_program (undo.Run words) = true
 runs_program other = false
 
--- an action with what is given, and with that undo, is asked of the worker: an execution whose arguments were found, and a revert that runs a
--- program; every other order the hand answers itself
+-- an action with what is given, and with that undo, is asked of the worker: an execution whose arguments were found,
+-- and a revert that runs a program; every other order the hand answers itself
 abbrev pub is_sent_so : Action → Given → Undo → Bool
 is_sent_so action.Execute (given.Found pairs) undoes = true
 is_sent_so action.Execute (given.Missing symbol) undoes = false
@@ -94,7 +94,8 @@ pub record FailsFar (order : Order) (came : Outcome) : Type 0 where
   pub sent : is_sent order ≡ true
   pub failed : is_far_failure came ≡ true
 
--- the outcome relation of a remote hand: what the order may give anywhere, or, where it is sent, that the worker was lost or replied badly
+-- the outcome relation of a remote hand: what the order may give anywhere, or, where it is sent, that the worker was
+-- lost or replied badly
 abbrev pub GivesFar : Order → Outcome → Type 0
 GivesFar order came = Gives order came ⊎ FailsFar order came
 

@@ -6,5 +6,5 @@ mod outcomes;
 mod performers;
 
 pub use orders::{Args, Given, Order, Pair};
-pub use outcomes::{Action, Outcome};
+pub use outcomes::{Action, Outcome, is_program_failure};
 pub use performers::Performer;

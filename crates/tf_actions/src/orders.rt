@@ -1,10 +1,11 @@
 ghost use Rattle.std.specs.Prelude.{◌≡◌, IfOk};
+ghost use Rattle.tf_actions.specs.Gives.{is_sent as goes_far};
 
 use crate::outcomes::Action;
 use std::alloc::Global;
 use std::marker::Model;
 use tf_flow::{TaskKind, Undo};
-use tf_values::{Memory, Name, Text, Texts, Val};
+use tf_values::{Memory, Name, Texts, Val};
 
 /// An argument: its name and its value.
 #[derive(Debug, Drop)]
@@ -102,12 +103,23 @@ pub struct Order {
 }
 
 impl Order {
+    /// Whether a hand that asks a worker asks it for this: an execution whose arguments were found, and a revert that
+    /// runs a program.
+    pub fn is_sent(&self) -> bool
+        ensures { result ≡ goes_far self.now }
+    {
+        match self.action {
+            Action::Execute => matches!(self.given, Given::Found(_)),
+            Action::Revert => matches!(self.undo, Undo::Run(_)),
+        }
+    }
+
     /// An equal order.
     pub fn copy(&self, alloc: Global) -> Result<Order, Memory>
         ensures { IfOk result (λ order. order ≡ self.now) }
     {
-        let words = copy_texts(alloc, &self.words)?;
-        let undo = copy_undo(alloc, &self.undo)?;
+        let words = self.words.copy(alloc)?;
+        let undo = self.undo.copy(alloc)?;
         let given = self.given.copy(alloc)?;
         Ok(Order {
             atom: self.atom,
@@ -118,24 +130,4 @@ impl Order {
             given,
         })
     }
-}
-
-fn copy_undo(alloc: Global, undo: &Undo) -> Result<Undo, Memory>
-    ensures { IfOk result (λ copy. copy ≡ undo.now) }
-{
-    match undo {
-        Undo::Pass => Ok(Undo::Pass),
-        Undo::Fail => Ok(Undo::Fail),
-        Undo::Run(words) => Ok(Undo::Run(copy_texts(alloc, words)?)),
-    }
-}
-
-fn copy_texts(alloc: Global, texts: &Texts) -> Result<Texts, Memory>
-    ensures { IfOk result (λ copies. copies ≡ texts.now) }
-{
-    let mut copies = Vec::with_capacity(alloc, texts.items().len())?;
-    for text in texts.items() {
-        copies.push(text.copy(alloc)?)?;
-    }
-    Ok(Texts::make(copies))
 }

@@ -30,7 +30,8 @@ pub trait Performer: Drop {
     fn perform(&mut self, alloc: Global, order: &Order) -> Result<Outcome, Memory>
         requires whole { IsWhole order.now }
         ensures given { IfOk result (λ outcome. gives order.now outcome) }
-        ensures cause { IfOk result (λ outcome. of_fault order.now outcome → Rises (faults self.old) (faults self.new)) }
+        ensures cause { IfOk result (λ outcome. of_fault order.now outcome
+            → Rises (faults self.old) (faults self.new)) }
         ensures no_fall { faults self.old ≤ faults self.new }
         ensures done { OnOk result (did self.new ≡ told_with (did self.old) order.now) }
         ensures not_done { OnErr result (did self.new ≡ did self.old) };

@@ -21,7 +21,8 @@ text_within None = None
 text_within (Some (value.Text text)) = Some text
 text_within (Some other) = None
 
--- what stands behind the word of a state, and the space or the line feed behind that: a payload and a line feed, or nothing
+-- what stands behind the word of a state, and the space or the line feed behind that: a payload and a line feed, or
+-- nothing
 abbrev pub payload_rest : Payload → List ℕ
 payload_rest payload.Empty = []
 payload_rest (payload.Value value) = text_form value ++ 10 ∷ []
@@ -53,7 +54,8 @@ failure_with word text name status place =
 abbrev pub resolve_with : Option ℕ → Option Kind → Option What
 resolve_with named resolved = option_and_then (λ g. option_map (λ k. what.Resolve g k) resolved) named
 
--- what the event of a word is, of the parts behind it that it takes: what an atom enters; a state of the flow; a flow and a kind; an atom
+-- what the event of a word is, of the parts behind it that it takes: what an atom enters; a state of the flow; a flow
+-- and a kind; an atom
 abbrev pub event_with : List ℕ → Option What → Option FlowState → Option What → Option ℕ → Option What
 event_with word entered turned resolved again =
     if bytes_eq word (codes "task") || bytes_eq word (codes "retry") then entered

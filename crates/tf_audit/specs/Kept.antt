@@ -11,10 +11,12 @@ use Rattle.tf_machine.specs.Machine.{MachineValue, StandsFor, outline, shown}
 
 -- the order of each task at work is kept: that of its last start
 pub record KeepsOrders (plan : Outline) (orders : List (Option Order)) (past : List Entry) : Type 0 where
-  pub each : (a : ℕ) → is_task plan a ≡ true → is_at_work (state_of past a) ≡ true → slice_get orders a ≡ Some (order_at plan past a (asked_in (state_of past a)))
+  pub each : (a : ℕ) → is_task plan a ≡ true → is_at_work (state_of past a) ≡ true
+      → slice_get orders a ≡ Some (order_at plan past a (asked_in (state_of past a)))
 
 -- the entry may follow the history that the machine stands for, and the orders of its tasks are kept
-pub record Follows (machine : MachineValue) (orders : List (Option Order)) (past : List Entry) (e : Entry) : Type 0 where
+pub record Follows (machine : MachineValue) (orders : List (Option Order)) (past : List Entry)
+    (e : Entry) : Type 0 where
   pub stands : StandsFor machine past
   pub keeps : KeepsOrders (outline machine) orders past
   pub step : Step (outline machine) (shown machine) e

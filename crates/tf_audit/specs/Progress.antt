@@ -50,9 +50,11 @@ pub record HasTaken (old new : Progress) (past : List Entry) (e : Entry) : Type 
 -- what comes of an entry: it is taken, or why it can't stand there
 abbrev pub TakesEntry : Progress → Progress → Entry → Option Why → Type 0
 TakesEntry old new e None = (past : List Entry) → IsKeptOf old past → HasTaken old new past e
-TakesEntry old new e (Some because) = (past : List Entry) → IsKeptOf old past → MayNot (outline old.machine) past e because
+TakesEntry old new e (Some because) =
+    (past : List Entry) → IsKeptOf old past → MayNot (outline old.machine) past e because
 
--- an audit of the plan has come over these lines: they are those of a legal run, and what is kept is that of its history
+-- an audit of the plan has come over these lines: they are those of a legal run, and what is kept is that of its
+-- history
 pub record HasCome (plan : Outline) (texts : List (List ℕ)) (progress : Progress) : Type 0 where
   pub plan_is : outline progress.machine ≡ plan
   pub past : List Entry
@@ -68,8 +70,10 @@ pub record CannotBe (plan : Outline) (before : List (List ℕ)) (text : List ℕ
 
 -- what comes of a line: the audit comes over it, or why it can't be
 abbrev pub TakesLine : Progress → Progress → List ℕ → Option Why → Type 0
-TakesLine old new text None = (plan : Outline) (texts : List (List ℕ)) → HasCome plan texts old → HasCome plan (texts ++ text ∷ []) new
-TakesLine old new text (Some because) = (plan : Outline) (texts : List (List ℕ)) → HasCome plan texts old → CannotBe plan texts text because
+TakesLine old new text None =
+    (plan : Outline) (texts : List (List ℕ)) → HasCome plan texts old → HasCome plan (texts ++ text ∷ []) new
+TakesLine old new text (Some because) =
+    (plan : Outline) (texts : List (List ℕ)) → HasCome plan texts old → CannotBe plan texts text because
 
 -- so many lines of the log were followed, and this is left of it
 pub record HasFollowed (plan : Outline) (log rest : List ℕ) (line : ℕ) (progress : Progress) : Type 0 where

@@ -72,26 +72,30 @@ abbrev pub numbered_with : Option ℕ → Option ℕ → Option What → Option 
 numbered_with None hand what = None
 numbered_with (Some number) None what = None
 numbered_with (Some number) (Some hand) None = None
-numbered_with (Some number) (Some hand) (Some what) = Some (record { number = number; entry = record { hand = hand; what = what } })
+numbered_with (Some number) (Some hand) (Some what) =
+    Some (record { number = number; entry = record { hand = hand; what = what } })
 
 -- ---- what an audit finds
 
--- the lines that are examined are the printed lines of this history, which is legal, and in which each end of a task carries an outcome that the
--- order of its start may have, wherever the hand is
+-- the lines that are examined are the printed lines of this history, which is legal, and in which each end of a task
+-- carries an outcome that the order of its start may have, wherever the hand is
 pub record AreOfRun (plan : Outline) (texts : List (List ℕ)) (past : List Entry) : Type 0 where
   pub printed : concat (filter is_examined texts) ≡ lines plan past
   pub entries : AllByRecursion (IsPlanEntry plan) past
   pub legal : LegalPast plan past
   pub given : HasOutcomes GivesFar plan past
 
--- what should stand in the place of an entry that may not follow: what is forced; else the first candidate; else there is neither
+-- what should stand in the place of an entry that may not follow: what is forced; else the first candidate; else there
+-- is neither
 abbrev pub IsExpected : Outline → Snapshot → Why → Type 0
 IsExpected plan s (why.Forced w) = forced plan s ≡ Some w
-IsExpected plan s (why.First start) = (choice plan s ≡ Some (start_entry start)) × (start.action ≡ action_in (s.state start.atom))
+IsExpected plan s (why.First start) =
+    (choice plan s ≡ Some (start_entry start)) × (start.action ≡ action_in (s.state start.atom))
 IsExpected plan s why.NoStep = (forced plan s ≡ None) × (choice plan s ≡ None)
 IsExpected plan s other = ⊥
 
--- why an entry can't stand after a history: it may not follow, and what should; or it ends a task with an outcome that the order of the task's start can't have
+-- why an entry can't stand after a history: it may not follow, and what should; or it ends a task with an outcome that
+-- the order of the task's start can't have
 abbrev pub MayNot : Outline → List Entry → Entry → Why → Type 0
 MayNot plan past e why.Unreadable = ⊥
 MayNot plan past e why.Number = ⊥
@@ -101,7 +105,8 @@ MayNot plan past e other = ¬ (Step plan (snapshot plan past) e) × IsExpected p
 -- why a line can't be after a history: no entry has it; its number isn't the next; or its entry can't stand there
 abbrev pub IsFaulty : Outline → List Entry → List ℕ → Why → Type 0
 IsFaulty plan past text why.Unreadable = IsUnreadable plan text
-IsFaulty plan past text why.Number = (number : ℕ) × (e : Entry) × IsLineOf plan number e text × (number ≢ length past + 1)
+IsFaulty plan past text why.Number =
+    (number : ℕ) × (e : Entry) × IsLineOf plan number e text × (number ≢ length past + 1)
 IsFaulty plan past text other = (e : Entry) × IsLineOf plan (length past + 1) e text × MayNot plan past e other
 
 -- a log is that of a legal run, with so many entries and the flow in that state at its end
@@ -146,5 +151,7 @@ why_text plan why.Value = codes "value"
 
 -- the text of a verdict
 unfoldable pub verdict_text : Outline → Verdict → List ℕ
-verdict_text plan (verdict.Legal entries state) = codes "legal " ++ decimal entries ++ codes " entries, " ++ flow_word state ++ 10 ∷ []
-verdict_text plan (verdict.Bad line because) = codes "taskflow: audit line " ++ decimal line ++ codes ": " ++ why_text plan because ++ 10 ∷ []
+verdict_text plan (verdict.Legal entries state) =
+    codes "legal " ++ decimal entries ++ codes " entries, " ++ flow_word state ++ 10 ∷ []
+verdict_text plan (verdict.Bad line because) =
+    codes "taskflow: audit line " ++ decimal line ++ codes ": " ++ why_text plan because ++ 10 ∷ []

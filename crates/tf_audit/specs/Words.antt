@@ -24,7 +24,8 @@ breaks_here (next ∷ others) = is_blank next
 
 -- the word is what the bytes have before their first blank, if they have one, and the rest is what stands behind that
 pub record IsFirstWord (bytes word rest : List ℕ) : Type 0 where
-  pub one : (w r : List ℕ) (blank : ℕ) → is_unbroken w ≡ true → is_blank blank ≡ true → bytes ≡ w ++ blank ∷ r → (word ≡ w) × (rest ≡ r)
+  pub one : (w r : List ℕ) (blank : ℕ) → is_unbroken w ≡ true → is_blank blank ≡ true → bytes ≡ w ++ blank ∷ r
+      → (word ≡ w) × (rest ≡ r)
 
 -- the state of an atom that has this word
 abbrev pub atom_state_named : List ℕ → Option AtomState

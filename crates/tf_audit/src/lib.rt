@@ -5,7 +5,6 @@
 mod auditing;
 mod ends;
 mod entries;
-mod equality;
 mod failures;
 mod laws;
 mod limits;

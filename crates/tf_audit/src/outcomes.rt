@@ -1,16 +1,13 @@
 ghost use Rattle.std.specs.Prelude.{◌≡◌, ◌↔◌, IsTrue, IfOk};
 ghost use Rattle.tf_states.specs.declared.record.Failure.{Failure as Fault};
 ghost use Rattle.tf_actions.specs.declared.outcomes.Outcome.TheVariants as came;
-ghost use Rattle.tf_actions.specs.Gives.{GivesFar, FailsFar, is_sent as goes_far, is_far_failure as is_far, GivesText, GivesNothing, IsProgramFailure, IsWhole};
-ghost use Rattle.tf_tasks.specs.Program.{is_program as asks_program};
+ghost use Rattle.tf_actions.specs.Gives.{GivesFar, FailsFar, is_far_failure as is_far, GivesText, GivesNothing, IsWhole};
 ghost use Rattle.tf_audit.specs.Outcomes.{outcome_in, EndsProgram};
 
-use crate::equality::same_failure;
 use std::alloc::Global;
-use tf_actions::{Action, Given, Order, Outcome};
-use tf_flow::{TaskKind, Undo};
+use tf_actions::{Action, Order, Outcome, is_program_failure};
 use tf_states::{Failure, Payload};
-use tf_tasks::value_of;
+use tf_tasks::{is_program, value_of};
 use tf_values::{Memory, Val};
 
 /// Whether a hand, here or on another machine, may end the task of the order with this payload.
@@ -32,17 +29,7 @@ pub fn allows(alloc: Global, order: &Order, payload: &Payload) -> Result<bool, M
 fn fails_far(order: &Order, payload: &Payload) -> bool
     ensures { IsTrue result ↔ FailsFar order.now (outcome_in payload.now) }
 {
-    is_sent(order) && is_far_failure(payload)
-}
-
-/// Whether the order is sent, where the hand is on another machine.
-fn is_sent(order: &Order) -> bool
-    ensures { result ≡ goes_far order.now }
-{
-    match order.action {
-        Action::Execute => matches!(order.given, Given::Found(_)),
-        Action::Revert => matches!(order.undo, Undo::Run(_)),
-    }
+    order.is_sent() && is_far_failure(payload)
 }
 
 /// Whether the payload says so.
@@ -53,17 +40,6 @@ fn is_far_failure(payload: &Payload) -> bool
         payload,
         Payload::Fault(Failure::Lost | Failure::BadReply(_))
     )
-}
-
-/// Whether a program is asked for.
-fn is_program(order: &Order) -> bool
-    ensures { result ≡ asks_program order.now }
-{
-    match (order.action, &order.given) {
-        (_, Given::Missing(_)) => false,
-        (Action::Execute, Given::Found(_)) => matches!(order.kind, TaskKind::Command),
-        (Action::Revert, Given::Found(_)) => matches!(order.undo, Undo::Run(_)),
-    }
 }
 
 /// Whether a program may end so: with a text where it is executed, with nothing where it undoes, or by a failure.
@@ -101,17 +77,6 @@ fn gives_nothing(payload: &Payload) -> bool
     }
 }
 
-/// Whether a program fails so.
-fn is_program_failure(failure: &Failure) -> bool
-    ensures { IsTrue result ↔ IsProgramFailure failure.now }
-{
-    match failure {
-        Failure::Spawn | Failure::TooLong | Failure::NotText => true,
-        Failure::Exit(status) => *status != 0,
-        _ => false,
-    }
-}
-
 /// Whether the payload is the outcome's.
 fn is_outcome(outcome: &Outcome, payload: &Payload) -> bool
     ensures { IsTrue result ↔ (outcome.now ≡ outcome_in payload.now) }
@@ -138,7 +103,7 @@ fn fails(failure: &Failure, payload: &Payload) -> bool
     ensures { IsTrue result ↔ (came.Failed failure.now ≡ outcome_in payload.now) }
 {
     match payload {
-        Payload::Fault(other) => same_failure(failure, other),
+        Payload::Fault(other) => failure.same(other),
         _ => false,
     }
 }

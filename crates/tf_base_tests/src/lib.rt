@@ -1,9 +1,13 @@
-//! Tests of the desk, the ports, the journal and the turnstile: of the forms in memory that fail at calls of their own, and of
-//! threads that wait for each other.
+//! Tests of what stands below the flows: of the forms in memory that fail at calls of their own, of threads that wait for each
+//! other, of the messages that the program itself doesn't send or read, of workers, and of remote hands.
 #![tactic(auto)]
 
 #[cfg(test)]
 mod desks;
+#[cfg(test)]
+mod dialers;
+#[cfg(test)]
+mod frames;
 #[cfg(test)]
 mod journals;
 #[cfg(test)]
@@ -11,6 +15,16 @@ mod links;
 #[cfg(test)]
 mod lists;
 #[cfg(test)]
+mod messages;
+#[cfg(test)]
+mod orders;
+#[cfg(test)]
 mod ports;
 #[cfg(test)]
+mod replies;
+#[cfg(test)]
+mod sockets;
+#[cfg(test)]
 mod turnstiles;
+#[cfg(test)]
+mod workers;

@@ -1,44 +1,11 @@
-ghost use Rattle.std.specs.Prelude.{◌≡◌, length, IfOk};
-ghost use Rattle.tf_actions.specs.Gives.{IsWhole};
-
 use crate::lists::{bytes, numbers, text};
+use crate::orders::echo;
 use std::alloc::Global;
 use std::process::Abort;
 use std::test::Fail;
-use tf_flow::{TaskKind, Undo};
 use tf_ports::*;
 use tf_states::Failure;
-use tf_values::{Name, Text, Texts, Val};
-
-/// The argument `a` with the value 1.
-fn args(alloc: Global) -> Result<Args, Fail>
-    ensures { IfOk result (λ args. length args ≡ 1) }
-{
-    let Some(name) = Name::make(b"a") else {
-        return Err(Fail::from("no name"));
-    };
-    let mut pairs = Vec::new(alloc);
-    pairs.push(Pair {
-        name,
-        value: Val::Int(1),
-    })?;
-    Ok(Args::make(pairs))
-}
-
-/// An order to execute echo with one argument.
-fn order(alloc: Global) -> Result<Order, Fail>
-    ensures { IfOk result (λ order. IsWhole order) }
-{
-    let args = args(alloc)?;
-    Ok(Order {
-        atom: 0,
-        action: Action::Execute,
-        kind: TaskKind::Echo,
-        words: Texts::make(Vec::new(alloc)),
-        undo: Undo::Pass,
-        given: Given::Found(args),
-    })
-}
+use tf_values::{Text, Texts, Val};
 
 /// A crew in memory of one hand, whose second order fails. Its first hiring fails.
 fn crew(alloc: Global) -> Result<MemoryCrew<MemoryPerformer>, Fail> {
@@ -67,7 +34,7 @@ fn hands(
 
 /// What the hand gives for an order.
 fn given(alloc: Global, hand: &mut MemoryPerformer) -> Result<Outcome, Fail> {
-    let order = order(alloc)?;
+    let order = echo(alloc, Val::Int(1))?;
     let outcome = hand.perform(alloc, &order)?;
     Ok(outcome)
 }

@@ -8,7 +8,7 @@ use Rattle.tf_desk.proofs.CountLemmas.{rises_later}
 use Rattle.tf_desk.proofs.StateLemmas.{on_disk_none, on_disk_told, on_disk_on, on_disk_within}
 use Rattle.tf_journal.specs.Start.{IsSet, file_of}
 use Rattle.tf_journal.proofs.PathLemmas.{set_on, path_on, as_read}
-use Rattle.tf_words.specs.declared.asked.Asked.{Asked}
+use Rattle.tf_board.specs.declared.calls.BoardRequest.{BoardRequest}
 use Rattle.tf_board.specs.Does.{Answer, answers, answer_of, acts, fault_text, fault_status, refusal_text, applied_text, FailsToRecord, Records, Acts, fault_of, applied, Reached, Ends, Does, Concludes, HasCauses, answered, unrecorded, disk_failed, filled}
 use Rattle.tf_report.specs.Closing.{disk_fault_text, book_full}
 use Rattle.tf_report.specs.declared.statuses.TheConstants.{SUCCEEDED, DISK_FAILED, OUT_OF_MEMORY, FULL, BOARD_REFUSED}
@@ -124,7 +124,7 @@ module _ {K : Type 0} (state : K → DeskState) (name : List ℕ) (entry : DeskS
       → Ends name past pending after entry now (fault_text why) (fault_status why) status
 
   -- a call that was to record did nothing
-  pub recording_failed : {A : Type 0} (asked : Asked) (now : DeskState) (old new : BoardValue K) (added : Command) (why : BoardFault) (status : ℕ)
+  pub recording_failed : {A : Type 0} (asked : BoardRequest) (now : DeskState) (old new : BoardValue K) (added : Command) (why : BoardFault) (status : ℕ)
       → IsOpened state name entry old → Records {A = A} state old new added (Err why) → (answer_of asked old.past).added ≡ added ∷ []
       → SaysFault (state new.journal.desk) now why status → (why ≡ fault.Memory → status ≡ OUT_OF_MEMORY) → KeepsLaws state
       → Does asked name entry now status
@@ -149,7 +149,7 @@ module _ {K : Type 0} (state : K → DeskState) (name : List ℕ) (entry : DeskS
   recording_failed asked now old new added (fault.NotOwner owner) status o r adds ends stopped laws = absurd r.fails
 
   -- a call that is refused, or for whose refusal memory ran out
-  pub refused_does : (asked : Asked) (now : DeskState) (old new : BoardValue K) (why : Refusal) (id : List ℕ) (got : BoardFault) (status : ℕ)
+  pub refused_does : (asked : BoardRequest) (now : DeskState) (old new : BoardValue K) (why : Refusal) (id : List ℕ) (got : BoardFault) (status : ℕ)
       → IsOpened state name entry old → new ≡ old
       → answer_of asked old.past ≡ answers (refusal_text why id) BOARD_REFUSED
       → (got ≡ fault_of why id) ⊎ (got ≡ fault.Memory)
@@ -168,7 +168,7 @@ module _ {K : Type 0} (state : K → DeskState) (name : List ℕ) (entry : DeskS
       (ends old.past [] old.past (refused_reached o same))))
 
   -- what an owner does with a job: it is recorded and said
-  pub acted_does : (asked : Asked) (now : DeskState) (old new : BoardValue K) (refused : Option Refusal) (action : JobAction) (id owner : List ℕ) (status : ℕ)
+  pub acted_does : (asked : BoardRequest) (now : DeskState) (old new : BoardValue K) (refused : Option Refusal) (action : JobAction) (id owner : List ℕ) (status : ℕ)
       → IsOpened state name entry old
       → answer_of asked old.past ≡ acts refused old.past action id owner
       → Acts state refused old new action id owner (Ok tt)
@@ -183,7 +183,7 @@ module _ {K : Type 0} (state : K → DeskState) (name : List ℕ) (entry : DeskS
       (ends old.past [] (applied old.past action id owner ∷ old.past) (recorded_reached tt o r)))
 
   -- or it couldn't be done
-  pub act_failed : (asked : Asked) (now : DeskState) (old new : BoardValue K) (refused : Option Refusal) (action : JobAction) (id owner : List ℕ) (got : BoardFault) (status : ℕ)
+  pub act_failed : (asked : BoardRequest) (now : DeskState) (old new : BoardValue K) (refused : Option Refusal) (action : JobAction) (id owner : List ℕ) (got : BoardFault) (status : ℕ)
       → IsOpened state name entry old
       → answer_of asked old.past ≡ acts refused old.past action id owner
       → Acts state refused old new action id owner (Err got)
@@ -195,7 +195,7 @@ module _ {K : Type 0} (state : K → DeskState) (name : List ℕ) (entry : DeskS
       recording_failed asked now old new (applied old.past action id owner) got status o r (ap (λ (a : Answer). a.added) is) ends stopped laws
 
   -- a command that is only answered
-  pub said_does : (asked : Asked) (mid : K) (now : DeskState) (board : BoardValue K) (text : List ℕ) (status : ℕ)
+  pub said_does : (asked : BoardRequest) (mid : K) (now : DeskState) (board : BoardValue K) (text : List ℕ) (status : ℕ)
       → IsOpened state name entry board → mid ≡ board.journal.desk
       → answer_of asked board.past ≡ answers text SUCCEEDED
       → ((past pending after : List Command) → Reached name past pending after entry (state mid) → Ends name past pending after entry now text SUCCEEDED status)

@@ -128,6 +128,13 @@ concludes_said status says unsaid = record {
 pub never_failed : {status wanted : ℕ} → (status ≢ UNSAID → (status ≡ wanted) ⊎ (status ≡ OUT_OF_MEMORY)) → wanted ≢ DISK_FAILED → status ≢ DISK_FAILED
 never_failed by apart = λ is. ⊎_elim (λ same. apart (sym same ∙ is)) (λ out. let no = sym out ∙ is in cc) (by (λ unsaid. let no = sym is ∙ unsaid in cc))
 
+-- a status that isn't answered
+pub never_said : (n : ℕ) {status wanted : ℕ} → (status ≢ UNSAID → status ≡ wanted) → wanted ≢ n → UNSAID ≢ n → status ≢ n
+never_said n by apart no_unsaid = λ is. apart (sym (by (λ unsaid. no_unsaid (sym unsaid ∙ is))) ∙ is)
+
+pub never_told : (n : ℕ) {status wanted : ℕ} → (status ≢ UNSAID → (status ≡ wanted) ⊎ (status ≡ OUT_OF_MEMORY)) → wanted ≢ n → OUT_OF_MEMORY ≢ n → UNSAID ≢ n → status ≢ n
+never_told n by apart no_memory no_unsaid = λ is. ⊎_elim (λ same. apart (sym same ∙ is)) (λ out. no_memory (sym out ∙ is)) (by (λ unsaid. no_unsaid (sym unsaid ∙ is)))
+
 -- what came before it was on the disk alone
 pub causes_so : {entry mid now : DeskState} {status : ℕ} → OnDisk anything entry mid → Concludes mid now status → (status ≡ DISK_FAILED → Rises entry.disk_faults mid.disk_faults)
     → HasCauses entry now status

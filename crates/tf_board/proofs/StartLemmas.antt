@@ -10,8 +10,8 @@ use Rattle.std.proofs.lemmas.List.Folds.{position_or_len_push}
 use Rattle.std.proofs.lemmas.List.Sums.{fails_before_first, position_or_len_is, prefix_len-le-length}
 use Rattle.tf_states.specs.declared.priorities.Priority.{Priority}
 use Rattle.tf_states.specs.declared.priorities.Priority.TheVariants as order
-use Rattle.tf_board.specs.Board.{same_priority, free_as, is_listed, priorities}
-use Rattle.tf_board.specs.Seeking.{is_takable, is_free_under, rank, firsts, starts_in, start_under}
+use Rattle.tf_board.specs.Board.{same_priority, free_as, is_listed, priorities, priority_byte}
+use Rattle.tf_board.specs.Seeking.{is_takable, is_free_under, firsts, starts_in, start_under}
 use Rattle.tf_board.specs.declared.jobs.Job.{Job}
 use Rattle.tf_board.specs.declared.starts.Starts.{Starts}
 use Rattle.tf_board.proofs.SeekingLemmas.{passed_over}
@@ -67,8 +67,8 @@ module _ {A : Type 0} (p : A → Bool) where
 five : {a b c d e v w x y z : Option ℕ} → a ≡ v → b ≡ w → c ≡ x → d ≡ y → e ≡ z → a ∷ b ∷ c ∷ d ∷ e ∷ [] ≡ v ∷ w ∷ x ∷ y ∷ z ∷ []
 five p q r s t = cc
 
--- what stands at the rank of a priority is its own
-read : (f : Priority → Option ℕ) (q : Priority) → get_or (map f priorities) (rank q) None ≡ f q
+-- what stands at the byte of a priority is its own
+read : (f : Priority → Option ℕ) (q : Priority) → get_or (map f priorities) (priority_byte q) None ≡ f q
 read f order.VeryHigh = refl
 read f order.High = refl
 read f order.Normal = refl
@@ -76,7 +76,7 @@ read f order.Low = refl
 read f order.VeryLow = refl
 
 -- one priority's is written, where that of the others is the same
-written : (f g : Priority → Option ℕ) (q : Priority) → ((p : Priority) → same_priority q p ≡ false → f p ≡ g p) → set (map f priorities) (rank q) (g q) ≡ map g priorities
+written : (f g : Priority → Option ℕ) (q : Priority) → ((p : Priority) → same_priority q p ≡ false → f p ≡ g p) → set (map f priorities) (priority_byte q) (g q) ≡ map g priorities
 written f g order.VeryHigh same = five refl (same order.High refl) (same order.Normal refl) (same order.Low refl) (same order.VeryLow refl)
 written f g order.High same = five (same order.VeryHigh refl) refl (same order.Normal refl) (same order.Low refl) (same order.VeryLow refl)
 written f g order.Normal same = five (same order.VeryHigh refl) (same order.High refl) refl (same order.Low refl) (same order.VeryLow refl)
@@ -98,7 +98,7 @@ module _ (before : List (Option Priority)) where
   abbrev is : Option Priority → Priority → Option ℕ
   is last p = position (is_free_under p) (before ++ last ∷ [])
 
-  read_there : (found : List (Option ℕ)) (r : ℕ) (q : Priority) → found ≡ firsts before → r ≡ rank q → get_or found r None ≡ was q
+  read_there : (found : List (Option ℕ)) (r : ℕ) (q : Priority) → found ≡ firsts before → r ≡ priority_byte q → get_or found r None ≡ was q
   read_there found r q are ranked = ap (λ (f : List (Option ℕ)). get_or f r None) are ∙ ap (λ (n : ℕ). get_or (firsts before) n None) ranked ∙ read was q
 
   untouched : (p : Priority) → is None p ≡ was p
@@ -116,23 +116,23 @@ module _ (before : List (Option Priority)) where
     own = position_push (is_free_under q) before (Some q) ∙ ap (λ (b : Bool). option_or (was q) (cond b (Some (length before)) None)) (itself q)
 
     -- a place that is free is the first under its priority, where none was before
-    pub firsts_new : (found : List (Option ℕ)) (r place : ℕ) → found ≡ firsts before → r ≡ rank q → place ≡ length before → is_some (get_or found r None) ≡ false → set found r (Some place) ≡ firsts (before ++ Some q ∷ [])
+    pub firsts_new : (found : List (Option ℕ)) (r place : ℕ) → found ≡ firsts before → r ≡ priority_byte q → place ≡ length before → is_some (get_or found r None) ≡ false → set found r (Some place) ≡ firsts (before ++ Some q ∷ [])
     firsts_new found r place are ranked long none =
         let none_here : is_some (was q) ≡ false = sym (ap is_some (read_there found r q are ranked)) ∙ none in
         let new : Some place ≡ is (Some q) q = ap Some long ∙ sym (own ∙ or_new (was q) (length before) none_here) in
         ap (λ (f : List (Option ℕ)). set f r (Some place)) are
         ∙ ap (λ (n : ℕ). set (firsts before) n (Some place)) ranked
-        ∙ ap (λ (o : Option ℕ). set (firsts before) (rank q) o) new
+        ∙ ap (λ (o : Option ℕ). set (firsts before) (priority_byte q) o) new
         ∙ written was (is (Some q)) q others
 
     -- and changes none, where one was
-    pub firsts_kept : (found : List (Option ℕ)) (r : ℕ) → found ≡ firsts before → r ≡ rank q → is_some (get_or found r None) ≡ true → found ≡ firsts (before ++ Some q ∷ [])
+    pub firsts_kept : (found : List (Option ℕ)) (r : ℕ) → found ≡ firsts before → r ≡ priority_byte q → is_some (get_or found r None) ≡ true → found ≡ firsts (before ++ Some q ∷ [])
     firsts_kept found r are ranked some =
         let some_here : is_some (was q) ≡ true = sym (ap is_some (read_there found r q are ranked)) ∙ some in
-        let same : get_or (firsts before) (rank q) None ≡ is (Some q) q = read was q ∙ sym (own ∙ or_kept (was q) (length before) some_here) in
+        let same : get_or (firsts before) (priority_byte q) None ≡ is (Some q) q = read was q ∙ sym (own ∙ or_kept (was q) (length before) some_here) in
         are
-        ∙ sym (set-get_or (firsts before) (rank q) None)
-        ∙ ap (λ (o : Option ℕ). set (firsts before) (rank q) o) same
+        ∙ sym (set-get_or (firsts before) (priority_byte q) None)
+        ∙ ap (λ (o : Option ℕ). set (firsts before) (priority_byte q) o) same
         ∙ written was (is (Some q)) q others
 
 -- ---- the most urgent priority
@@ -190,7 +190,7 @@ first_or p xs =
     ]
 
 -- the search under a priority begins there
-pub start_is : (starts : Starts) (free : List (Option Priority)) (p : Priority) (r : ℕ) → starts ≡ starts_in free → r ≡ rank p → unwrap_or (get_or starts.found r None) starts.end ≡ start_under free p
+pub start_is : (starts : Starts) (free : List (Option Priority)) (p : Priority) (r : ℕ) → starts ≡ starts_in free → r ≡ priority_byte p → unwrap_or (get_or starts.found r None) starts.end ≡ start_under free p
 start_is starts free p r are ranked =
     let end = position_or_len (is_free_under order.VeryHigh) free in
     let before = take end free in

@@ -1,11 +1,12 @@
--- What the commands of a board mean, and their byte form. Lists of commands have the newest first. What a board is, what its file holds, and how it is opened. Lists of commands have the newest first.
-use Rattle.std.specs.Prelude.{◌≡◌, ℕ, zero, suc, ◌+◌, List, [], ◌∷◌, ◌++◌, Bool, true, false, ◌&&◌, nat_eq, ◌==◌, if◌then◌else◌, Option, Some, None, map, take, slice_get, ◌<◌, ◌^◌, length, reverse, vec_len, vec_capacity, ◌≢◌, ◌⊎◌, ◌≤◌, IsTrue, Result, Ok, Err}
+-- What the commands of a board mean, and their byte form. Lists of commands have the newest first. What a board is,
+-- what its file holds, and how it is opened. Lists of commands have the newest first.
+use Rattle.std.specs.Prelude.{◌≡◌, ℕ, codes, zero, suc, ◌+◌, List, [], ◌∷◌, ◌++◌, Bool, true, false, ◌&&◌, nat_eq, ◌==◌, if◌then◌else◌, Option, Some, None, map, take, slice_get, ◌<◌, ◌^◌, length, reverse, vec_len, vec_capacity, ◌≢◌, ◌⊎◌, ◌≤◌, IsTrue, Result, Ok, Err}
 use Rattle.std.specs.Cmp.Lexicographic.{pointwise}
 use Rattle.std.specs.Fmt.{decimal}
 use Rattle.std.specs.List.{find, filter, flat_map, position, AllByRecursion}
 use Rattle.sha1.specs.Sha1.{sha1}
 use Rattle.uuid.specs.Parts.{with_version, with_variant}
-use Rattle.uuid.specs.Text.{hyphenated_text, lower}
+use Rattle.uuid.specs.Text.{hyphenated_text, lower, parsed}
 use Rattle.uuid.specs.Uuid.{namespace_dns}
 use Rattle.uuid.specs.declared.Variant.TheVariants.{RFC4122}
 use Rattle.uuid.specs.declared.Version.TheVariants.{Sha1}
@@ -56,9 +57,23 @@ id_of n name = with_version (with_variant (take 16 (sha1 (namespace_dns ++ (deci
 unfoldable pub id_text : List ℕ → List ℕ
 id_text id = hyphenated_text lower id
 
+-- the id that a word spells, in one of its text forms
+unfoldable pub parsed_id : List ℕ → Option (List ℕ)
+parsed_id word = parsed word
+
 -- two ids, or two names, are the same
 abbrev pub same : List ℕ → List ℕ → Bool
 same a b = pointwise ◌==◌ a b
+
+-- the priority of this name
+abbrev pub priority_named : List ℕ → Option Priority
+priority_named word =
+    if same word (codes "VERY_HIGH") then Some priority.VeryHigh
+    else if same word (codes "HIGH") then Some priority.High
+    else if same word (codes "NORMAL") then Some priority.Normal
+    else if same word (codes "LOW") then Some priority.Low
+    else if same word (codes "VERY_LOW") then Some priority.VeryLow
+    else None
 
 -- ---- jobs
 
@@ -89,16 +104,20 @@ standing_after action.Trash owner = standing.Trashed
 abbrev pub standing_of : List Command → ℕ → Standing
 standing_of [] n = standing.Free
 standing_of (command.Post name priority details ∷ past) n = standing_of past n
-standing_of (command.Apply action job owner ∷ past) n = if nat_eq job n then standing_after action owner else standing_of past n
+standing_of (command.Apply action job owner ∷ past) n =
+    if nat_eq job n then standing_after action owner else standing_of past n
 
 -- the job of a number that was posted with this name and this priority
 abbrev pub job_at : List Command → ℕ → List ℕ → Priority → Job
-job_at past n name priority = record { number = n; id = id_of n name; name = name; priority = priority; standing = standing_of past n }
+job_at past n name priority =
+    record { number = n; id = id_of n name; name = name; priority = priority; standing = standing_of past n }
 
--- the jobs that some of the commands posted, the oldest, in the order of their numbers, as they stand after all commands
+-- the jobs that some of the commands posted, the oldest, in the order of their numbers, as they stand after all
+-- commands
 abbrev pub jobs_in : List Command → List Command → List Job
 jobs_in all [] = []
-jobs_in all (command.Post name priority details ∷ past) = jobs_in all past ++ job_at all (posted past + 1) name priority ∷ []
+jobs_in all (command.Post name priority details ∷ past) =
+    jobs_in all past ++ job_at all (posted past + 1) name priority ∷ []
 jobs_in all (command.Apply action job owner ∷ past) = jobs_in all past
 
 -- the jobs of a board, in the order of their numbers
@@ -208,7 +227,16 @@ holder_of standing.Trashed = None
 
 -- what the list says of a job
 abbrev pub line_of : Job → JobLine
-line_of job = record { number = job.number; id = id_text job.id; name = job.name; priority = job.priority; state = state_of job.standing; owner = holder_of job.standing }
+line_of job =
+    record {
+      number = job.number;
+      id = id_text job.id;
+      name = job.name;
+      priority = job.priority;
+      state = state_of
+          job.standing;
+      owner = holder_of job.standing;
+    }
 
 -- two priorities are the same
 abbrev pub same_priority : Priority → Priority → Bool
@@ -257,7 +285,8 @@ action_byte action.Abandon = 3
 action_byte action.Consume = 4
 action_byte action.Trash = 5
 
--- a posted job has its name, its priority and its details behind a tag, and what an owner did the job's number and the owner's name
+-- a posted job has its name, its priority and its details behind a tag, and what an owner did the job's number and the
+-- owner's name
 abbrev pub command_bytes : Command → List ℕ
 command_bytes (command.Post name priority details) = 1 ∷ name_bytes name ++ (priority_byte priority ∷ byte_form details)
 command_bytes (command.Apply action job owner) = action_byte action ∷ to_be_bytes w64 job ++ name_bytes owner
@@ -362,8 +391,9 @@ Finds past found = Holds past found ⊎ ((past ≡ []) × (found ≡ unborn))
 abbrev pub LeavesHeld : List Command → DeskState → Type 0
 LeavesHeld past state = (image : List ℕ) → MayLeave state image → Holds past (board_in image)
 
--- what a board keeps of its parts: the jobs are those of its legal commands, its journal is kept in a file and has just these commands,
--- and unless an append found a disk fault the file is as the last call left it, where the desk tells its content
+-- what a board keeps of its parts: the jobs are those of its legal commands, its journal is kept in a file and has just
+-- these commands, and unless an append found a disk fault the file is as the last call left it, where the desk tells
+-- its content
 pub record IsSound {K : Type 0} (state : K → DeskState) (kept : Kept) (b : BoardValue K) : Type 0 where
   pub true_to : IsTrueTo kept b.past
   pub title : b.journal.title ≡ jobs_title
@@ -399,13 +429,13 @@ abbrev pub desk_loaded : {K F : Type 0} → Result (BoardValue K) (K × F) → K
 desk_loaded (Ok board) = board.journal.desk
 desk_loaded (Err back) = back.0
 
--- a crash inside a load: where the file is unborn, one in which a journal is made may leave it so or a board without a command; the shown
--- text stays
+-- a crash inside a load: where the file is unborn, one in which a journal is made may leave it so or a board without a
+-- command; the shown text stays
 abbrev pub LeavesLoad : DeskState → Pairs
 LeavesLoad old image text = (board_in (bytes_now old) ≡ unborn) × LeavesBirth jobs_title old.shown image text
 
--- a board that nothing stands against: no append found a disk fault, it is kept in a file with its title, its commands are those that a board may hold, and its size
--- is theirs
+-- a board that nothing stands against: no append found a disk fault, it is kept in a file with its title, its commands
+-- are those that a board may hold, and its size is theirs
 pub record IsReadyBoard {K : Type 0} (board : BoardValue K) : Type 0 where
   pub sound : board.journal.halted ≡ false
   pub in_file : board.journal.volatile ≡ false
@@ -413,7 +443,8 @@ pub record IsReadyBoard {K : Type 0} (board : BoardValue K) : Type 0 where
   pub legal : AreOfBoard board.past
   pub sized : board.journal.size ≡ size_of board.past
 
--- the picked file is a board of these commands now, and a crash leaves them; it had them before, or it was unborn and there are none
+-- the picked file is a board of these commands now, and a crash leaves them; it had them before, or it was unborn and
+-- there are none
 pub record IsLoadedBoard {K : Type 0} (state : K → DeskState) (old : DeskState) (board : BoardValue K) : Type 0 where
   pub fresh : IsReadyBoard board
   pub found : IsTrue old.tells → Finds board.past (board_in (bytes_now old))
@@ -427,7 +458,8 @@ FailsToMake load_fault.Memory old new = Unit {0}
 FailsToMake (load_fault.NotABook offset byte) old new = ⊥
 FailsToMake load_fault.Old old new = ⊥
 
--- why a board wasn't loaded: what the fault says of the file is so, the disk's comes only where the count of them rose, and none is of the format
+-- why a board wasn't loaded: what the fault says of the file is so, the disk's comes only where the count of them rose,
+-- and none is of the format
 pub record FailsToLoad (fault : LoadFault) (old new : DeskState) : Type 0 where
   pub refused : IsTrue old.tells → RefusesBoard fault (board_in (bytes_now old))
   pub cause : fault ≡ load_fault.Disk → Rises old.disk_faults new.disk_faults
@@ -436,7 +468,8 @@ pub record FailsToLoad (fault : LoadFault) (old new : DeskState) : Type 0 where
 -- ---- what is known of a board's desk on the way through a command
 -- Lists of commands have the newest first.
 
--- a crash leaves these commands, or a file that is still unborn where there are none; nothing more was shown since that state
+-- a crash leaves these commands, or a file that is still unborn where there are none; nothing more was shown since that
+-- state
 abbrev pub LeavesBoard : List Command → DeskState → Pairs
 LeavesBoard past entry image text = Finds past (board_in image) × (entry.shown ≡ Some text)
 
@@ -466,8 +499,8 @@ pub record IsOpened {K : Type 0} (state : K → DeskState) (name : List ℕ) (en
       → Path name entry (state board.journal.desk) (LeavesBoard board.past entry)
       (λ image. Holds board.past (board_in image))
 
--- it couldn't be opened for this fault: it is as it was, or it was unborn and no command is in it; what the fault says of the file is so, and
--- the disk's comes only where the count of them rose, and none is of the format
+-- it couldn't be opened for this fault: it is as it was, or it was unborn and no command is in it; what the fault says
+-- of the file is so, and the disk's comes only where the count of them rose, and none is of the format
 pub record IsUnopened (name : List ℕ) (fault : LoadFault) (entry now : DeskState) : Type 0 where
   pub on_disk : OnDisk anything entry now
   pub file : IsTrue entry.tells → IsAsBeforeOrMade (file_of entry name) (file_of now name)

@@ -1,4 +1,5 @@
--- What a command on a board comes to: what is recorded, what is said, and the status. Lists of commands have the newest first. What becomes of a command on a board. Lists of commands have the newest first.
+-- What a command on a board comes to: what is recorded, what is said, and the status. Lists of commands have the newest
+-- first. What becomes of a command on a board. Lists of commands have the newest first.
 use Rattle.std.specs.Prelude.{◌≡◌, ◌⊎◌, ◌<◌, ◌≤◌, ℕ, suc, ◌+◌, true, false, IsTrue, List, ◌∷◌, length, Option, Some, None, Result, Err, OnOk, IfErr, [], ◌++◌, codes, ◌≢◌}
 use Rattle.tf_numbers.specs.Numbers.{Rises}
 use Rattle.tf_desk.specs.Crash.{Pairs, ShowsPrefix}
@@ -12,14 +13,16 @@ use Rattle.tf_board.specs.declared.rules.Refusal.{Refusal}
 use Rattle.std.specs.List.{flat_map}
 use Rattle.tf_report.specs.Closing.{disk_fault_text, book_full, ClosesWithOrStops, not_a_book}
 use Rattle.tf_report.specs.Lines.{job_line, owner_text}
-use Rattle.tf_words.specs.declared.asked.Asked.{Asked}
+use Rattle.tf_board.specs.declared.calls.JobCall.{JobCall}
+use Rattle.tf_board.specs.declared.calls.BoardRequest.{BoardRequest}
 use Rattle.tf_board.specs.declared.board.Owner.{Owner}
 use Rattle.tf_report.specs.declared.statuses.TheConstants.{SUCCEEDED, DISK_FAILED, OUT_OF_MEMORY, FULL, BOARD_REFUSED, NO_BOOK, UNSAID}
 use Rattle.tf_journal.specs.Start.{Path, file_of, IsStart}
 use Rattle.tf_board.specs.declared.commands.Command.TheVariants as command
 use Rattle.tf_board.specs.declared.faults.BoardFault.TheVariants as fault
 use Rattle.tf_board.specs.declared.rules.Refusal.TheVariants as refusal
-use Rattle.tf_words.specs.declared.asked.Asked.TheVariants as asked
+use Rattle.tf_board.specs.declared.calls.JobCall.TheVariants as call
+use Rattle.tf_board.specs.declared.calls.BoardRequest.TheVariants as request
 use Rattle.tf_board.specs.declared.board.Owner.TheVariants as owned
 use Rattle.tf_board.specs.declared.commands.JobAction.TheVariants as action
 
@@ -53,7 +56,8 @@ HoldsMaybe past added found = Holds past found ⊎ Holds (added ∷ past) found
 abbrev pub LeavesRecorded : List Command → Command → DeskState → Pairs
 LeavesRecorded past added old image text = HoldsMaybe past added (board_in image) × (old.shown ≡ Some text)
 
--- the command was recorded: it may stand after those before it, there was room for it, the file has it now, and a crash from now on leaves it
+-- the command was recorded: it may stand after those before it, there was room for it, the file has it now, and a crash
+-- from now on leaves it
 pub record IsRecorded {K : Type 0} (state : K → DeskState) (added : Command) (old new : BoardValue K) : Type 0 where
   pub now : new ≡ with_command old new.journal.desk added
   pub legal : AreOfBoard (added ∷ old.past)
@@ -63,7 +67,8 @@ pub record IsRecorded {K : Type 0} (state : K → DeskState) (added : Command) (
       → Holds (added ∷ old.past) (board_in (bytes_now (state new.journal.desk)))
   pub lasts : IsTrue (state old.journal.desk).tells → LeavesHeld (added ∷ old.past) (state new.journal.desk)
 
--- the disk failed, and the count of its faults rose: nothing is recorded from now on; the command may stand after those before it
+-- the disk failed, and the count of its faults rose: nothing is recorded from now on; the command may stand after those
+-- before it
 pub record IsHalted {K : Type 0} (state : K → DeskState) (added : Command) (old new : BoardValue K) : Type 0 where
   pub now : new ≡ with_fault old new.journal.desk
   pub legal : AreOfBoard (added ∷ old.past)
@@ -90,8 +95,8 @@ FailsToRecord state added old new (fault.Gone id) = ⊥
 FailsToRecord state added old new (fault.Claimed owner) = ⊥
 FailsToRecord state added old new (fault.NotOwner owner) = ⊥
 
--- A command that isn't refused was to be recorded, and was or wasn't. In any case only the board's file is written, and a crash leaves the
--- commands from before, with the new one or without.
+-- A command that isn't refused was to be recorded, and was or wasn't. In any case only the board's file is written, and
+-- a crash leaves the commands from before, with the new one or without.
 pub record Records {A K : Type 0} (state : K → DeskState) (old new : BoardValue K) (added : Command)
     (result : Result A BoardFault) : Type 0 where
   pub recorded : OnOk result (IsRecorded state added old new)
@@ -123,7 +128,34 @@ number_of past id = number_at (place_of (jobs_of past) id)
 abbrev pub applied : List Command → JobAction → List ℕ → List ℕ → Command
 applied past action id owner = command.Apply action (number_of past id) owner
 
--- a call was refused for this reason, of the job of this id: this is answered, unless memory runs out, and nothing changed
+-- ---- one call
+
+-- the number of the job that a call is about, after these commands: the next one, or that of the job that its id names
+abbrev pub job_of : List Command → JobCall → ℕ
+job_of past (call.Post name priority details) = posted past + 1
+job_of past (call.Apply action id owner) = number_of past id
+
+-- what a call records, of the job of this number
+abbrev pub command_of : JobCall → ℕ → Command
+command_of (call.Post name priority details) job = command.Post name priority details
+command_of (call.Apply action id owner) job = command.Apply action job owner
+
+-- what a call asks to record after these commands
+abbrev pub asked_for : List Command → JobCall → Command
+asked_for past call = command_of call (job_of past call)
+
+-- why a call is refused after these commands; a job may always be posted
+abbrev pub refuses_call : List Command → JobCall → Option Refusal
+refuses_call past (call.Post name priority details) = None
+refuses_call past (call.Apply action id owner) = refuses_id past action id owner
+
+-- the id that a call names; a post names none
+abbrev pub id_named : JobCall → List ℕ
+id_named (call.Post name priority details) = []
+id_named (call.Apply action id owner) = id
+
+-- a call was refused for this reason, of the job of this id: this is answered, unless memory runs out, and nothing
+-- changed
 pub record IsRefusedFor {A K : Type 0} (why : Refusal) (id : List ℕ) (old new : BoardValue K)
     (result : Result A BoardFault) : Type 0 where
   pub now : new ≡ old
@@ -178,6 +210,11 @@ applied_text action.Abandon id owner = codes "abandoned " ++ id_text id ++ 10 �
 applied_text action.Consume id owner = codes "consumed " ++ id_text id ++ 10 ∷ []
 applied_text action.Trash id owner = codes "trashed " ++ id_text id ++ 10 ∷ []
 
+-- what is said of a call that was made about the job of this number
+abbrev pub call_text : JobCall → ℕ → List ℕ
+call_text (call.Post name priority details) job = posted_text (id_of job name)
+call_text (call.Apply action id owner) job = applied_text action id owner
+
 -- what is said of who has a job
 unfoldable pub kept_text : Option (List ℕ) → List ℕ
 kept_text owner = codes "owner " ++ owner_text owner ++ 10 ∷ []
@@ -210,27 +247,13 @@ tells_owner owned.Gone id = answers (refusal_text refusal.Gone id) BOARD_REFUSED
 tells_owner owned.Free id = answers (kept_text None) SUCCEEDED
 tells_owner (owned.Of name) id = answers (kept_text (Some name)) SUCCEEDED
 
--- what a command comes to on a board of these commands; one that isn't a board's comes to nothing
-abbrev pub answer_of : Asked → List Command → Answer
-answer_of (asked.Post board name priority details) past = adds (command.Post name priority details) (posted_text (id_of (posted past + 1) name))
-answer_of (asked.Claim board id owner) past = acts (refuses_id past action.Claim id owner) past action.Claim id owner
-answer_of (asked.Abandon board id owner) past = acts (refuses_id past action.Abandon id owner) past action.Abandon id owner
-answer_of (asked.Consume board id owner) past = acts (refuses_id past action.Consume id owner) past action.Consume id owner
-answer_of (asked.Trash board id owner) past = acts (refuses_id past action.Trash id owner) past action.Trash id owner
-answer_of (asked.Owner board id) past = tells_owner (owner_of past id) id
-answer_of (asked.List board) past = answers (flat_map job_line (listed past)) SUCCEEDED
-answer_of other past = answers [] SUCCEEDED
-
--- the board that a command is about, if it is a board's
-abbrev pub board_of : Asked → Option (List ℕ)
-board_of (asked.Post board name priority details) = Some board
-board_of (asked.Claim board id owner) = Some board
-board_of (asked.Abandon board id owner) = Some board
-board_of (asked.Consume board id owner) = Some board
-board_of (asked.Trash board id owner) = Some board
-board_of (asked.Owner board id) = Some board
-board_of (asked.List board) = Some board
-board_of other = None
+-- what a request comes to on a board of these commands
+abbrev pub answer_of : BoardRequest → List Command → Answer
+answer_of (request.Call (call.Post name priority details)) past =
+    adds (command.Post name priority details) (posted_text (id_of (posted past + 1) name))
+answer_of (request.Call (call.Apply action id owner)) past = acts (refuses_id past action id owner) past action id owner
+answer_of (request.Owner id) past = tells_owner (owner_of past id) id
+answer_of request.List past = answers (flat_map job_line (listed past)) SUCCEEDED
 
 -- ---- what the file has
 
@@ -238,15 +261,15 @@ board_of other = None
 abbrev pub HoldsEither : (pending after : List Command) → Recovered → Type 0
 HoldsEither pending after found = Holds after found ⊎ Holds (pending ++ after) found
 
--- a crash since the call's start leaves the commands from before and nothing said; or those from after, perhaps the pending one with them,
--- and a prefix of the message shown
+-- a crash since the call's start leaves the commands from before and nothing said; or those from after, perhaps the
+-- pending one with them, and a prefix of the message shown
 abbrev pub LeavesCommand : (past pending after : List Command) → DeskState → List ℕ → Pairs
 LeavesCommand past pending after entry message image text =
     LeavesBoard past entry image text
     ⊎ (HoldsEither pending after (board_in image) × ShowsPrefix entry.shown message (Some text))
 
--- what is promised of the file and of a crash, where the desk tells its content: the file has the commands from after, or the pending one
--- too; other files stay
+-- what is promised of the file and of a crash, where the desk tells its content: the file has the commands from after,
+-- or the pending one too; other files stay
 pub record Lasts (name : List ℕ) (past pending after : List Command) (entry now : DeskState) (message : List ℕ)
     : Type 0 where
   pub file : HoldsEither pending after (board_in (file_of now name))
@@ -254,16 +277,16 @@ pub record Lasts (name : List ℕ) (past pending after : List Command) (entry no
   pub crash : (moment : ℕ) → IsStart name entry now moment → (image text : List ℕ) → now.crashes moment image text
       → LeavesCommand past pending after entry message image text
 
--- no command is in it that wasn't: it is as it was, or it was unborn and no command is in it; a crash leaves such a file, and a prefix of the
--- message shown
+-- no command is in it that wasn't: it is as it was, or it was unborn and no command is in it; a crash leaves such a
+-- file, and a prefix of the message shown
 pub record StaysUnmade (name : List ℕ) (entry now : DeskState) (message : List ℕ) : Type 0 where
   pub file : IsAsBeforeOrMade (file_of entry name) (file_of now name)
   pub others : (other : List ℕ) → other ≢ name → now.content.files other ≡ entry.content.files other
   pub crash : (moment : ℕ) → IsStart name entry now moment → (image text : List ℕ) → now.crashes moment image text
       → IsAsBeforeOrMade (file_of entry name) image × ShowsPrefix entry.shown message (Some text)
 
--- on the way: a crash since the call's start leaves the commands from before, or those from after, perhaps the pending one with them; nothing
--- more was shown
+-- on the way: a crash since the call's start leaves the commands from before, or those from after, perhaps the pending
+-- one with them; nothing more was shown
 abbrev pub LeavesUnsaid : (past pending after : List Command) → DeskState → Pairs
 LeavesUnsaid past pending after entry image text =
     LeavesBoard past entry image text ⊎ (HoldsEither pending after (board_in image) × (entry.shown ≡ Some text))
@@ -301,27 +324,33 @@ pub record EndsUnmade (name : List ℕ) (entry now : DeskState) (message : List 
   pub closes : ClosesWithOrStops entry.shown message wanted now.shown status
   pub stays : IsTrue entry.tells → StaysUnmade name entry now message
 
--- the ways that a command on a board goes
-pub data Does (asked : Asked) (name : List ℕ) (entry now : DeskState) (status : ℕ) : Type 0 where
-  -- memory ran out, or the disk failed, before the board was open
-  unopened_memory : status ≡ OUT_OF_MEMORY → EndsUnmade name entry now [] OUT_OF_MEMORY status
-      → Does asked name entry now status
-  unopened_disk : EndsUnmade name entry now disk_fault_text DISK_FAILED status → Does asked name entry now status
-  -- the file is no board; it isn't changed
+-- the ways that a command ends whose board couldn't be opened: memory ran out, the disk failed, or the file is no board
+-- and isn't changed
+pub data EndsUnopened (name : List ℕ) (entry now : DeskState) (status : ℕ) : Type 0 where
+  without_memory : status ≡ OUT_OF_MEMORY → EndsUnmade name entry now [] OUT_OF_MEMORY status
+      → EndsUnopened name entry now status
+  without_disk : EndsUnmade name entry now disk_fault_text DISK_FAILED status → EndsUnopened name entry now status
   no_board : (offset : ℕ) (byte : Option ℕ)
       → (IsTrue entry.tells → IsNoBoard (board_in (file_of entry name)) offset byte)
       → (IsTrue entry.tells → file_of now name ≡ file_of entry name)
-      → EndsUnmade name entry now (not_a_book offset byte) NO_BOOK status → Does asked name entry now status
+      → EndsUnmade name entry now (not_a_book offset byte) NO_BOOK status → EndsUnopened name entry now status
+
+-- the ways that a command on a board goes
+pub data Does (asked : BoardRequest) (name : List ℕ) (entry now : DeskState) (status : ℕ) : Type 0 where
+  -- the board couldn't be opened
+  unopened : EndsUnopened name entry now status → Does asked name entry now status
   -- it did what it comes to on the board's commands; a board may hold these, with what it recorded
-  answered : (past : List Command) → AreOfBoard past → AreOfBoard ((answer_of asked past).added ++ past) → HasJobs name entry past
+  answered : (past : List Command) → AreOfBoard past → AreOfBoard ((answer_of asked past).added ++ past)
+      → HasJobs name entry past
       → Ends name past [] ((answer_of asked past).added ++ past) entry now
       (answer_of asked past).text (answer_of asked past).status status
       → Does asked name entry now status
-  -- its command couldn't be recorded: memory ran out, the disk failed, and then it may be in the file, as one that a board may hold after the
-  -- others, or the board is full
+  -- its command couldn't be recorded: memory ran out, the disk failed, and then it may be in the file, as one that a
+  -- board may hold after the others, or the board is full
   unrecorded : (past : List Command) → AreOfBoard past → HasJobs name entry past → status ≡ OUT_OF_MEMORY
       → Ends name past [] past entry now [] OUT_OF_MEMORY status → Does asked name entry now status
-  disk_failed : (past : List Command) → AreOfBoard past → AreOfBoard ((answer_of asked past).added ++ past) → HasJobs name entry past
+  disk_failed : (past : List Command) → AreOfBoard past → AreOfBoard ((answer_of asked past).added ++ past)
+      → HasJobs name entry past
       → Ends name past (answer_of asked past).added past entry now disk_fault_text DISK_FAILED status
       → Does asked name entry now status
   filled : (past : List Command) (size need : ℕ) → AreOfBoard past → HasJobs name entry past
@@ -330,7 +359,8 @@ pub data Does (asked : Asked) (name : List ℕ) (entry now : DeskState) (status 
 
 -- ---- when a status comes
 
--- nobody is asked for a stop, no count falls, and the disk failed, and a text couldn't be said, only where the count of such faults rose
+-- nobody is asked for a stop, no count falls, and the disk failed, and a text couldn't be said, only where the count of
+-- such faults rose
 pub record HasCauses (old new : DeskState) (status : ℕ) : Type 0 where
   pub extends : Extends anything old new
   pub unasked : IsUnasked old new
@@ -351,11 +381,13 @@ abbrev pub IsBoard : Recovered → Type 0
 IsBoard found = (offset : ℕ) (byte : Option ℕ) → ¬ (IsNoBoard found offset byte)
 
 -- it is a board on which the command isn't refused
-abbrev pub IsAllowed : Asked → Recovered → Type 0
+abbrev pub IsAllowed : BoardRequest → Recovered → Type 0
 IsAllowed asked found =
-    IsBoard found × ((past : List Command) → AreOfBoard past → Finds past found → (answer_of asked past).status ≡ SUCCEEDED)
+    IsBoard found ×
+    ((past : List Command) → AreOfBoard past → Finds past found → (answer_of asked past).status ≡ SUCCEEDED)
 
--- where nothing failed, the command is done, or memory runs out, or its record would make the board longer than its limit
+-- where nothing failed, the command is done, or memory runs out, or its record would make the board longer than its
+-- limit
 abbrev pub IsBoardComplete : ℕ → Type 0
 IsBoardComplete status = (status ≡ SUCCEEDED) ⊎ (status ≡ OUT_OF_MEMORY) ⊎ (status ≡ FULL)
 

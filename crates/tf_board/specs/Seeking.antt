@@ -19,14 +19,6 @@ abbrev pub is_free_under : Priority → Option Priority → Bool
 is_free_under priority None = false
 is_free_under priority (Some other) = same_priority other priority
 
--- how many priorities are more urgent
-abbrev pub rank : Priority → ℕ
-rank priority.VeryHigh = 0
-rank priority.High = 1
-rank priority.Normal = 2
-rank priority.Low = 3
-rank priority.VeryLow = 4
-
 -- the first place that is free under each priority
 abbrev pub firsts : List (Option Priority) → List (Option ℕ)
 firsts free = map (λ p. position (is_free_under p) free) priorities
@@ -37,7 +29,8 @@ before_urgent free = before_first (is_free_under priority.VeryHigh) free
 
 -- the first of these that is free under each priority, and where they end
 abbrev pub starts_in : List (Option Priority) → Starts
-starts_in free = record { found = firsts (before_urgent free); end = position_or_len (is_free_under priority.VeryHigh) free }
+starts_in free =
+    record { found = firsts (before_urgent free); end = position_or_len (is_free_under priority.VeryHigh) free }
 
 -- where the search under a priority begins: at the first of these that is free under it, else where they end
 abbrev pub start_under : List (Option Priority) → Priority → ℕ

@@ -1,4 +1,4 @@
-ghost use Rattle.std.specs.Prelude.{◌≡◌, ◌++◌, true, OnOk};
+ghost use Rattle.std.specs.Prelude.{◌≡◌, ◌<◌, ◌++◌, true, OnOk};
 ghost use Rattle.tf_values.specs.Text.{is_name};
 ghost use Rattle.tf_board.specs.Board as form;
 
@@ -68,9 +68,10 @@ fn append_name(name: &Name, out: &mut Vec<u8>) -> Result<(), Memory>
     append(bytes, out)
 }
 
-/// The byte of a priority.
-fn priority_byte(priority: Priority) -> u8
-    ensures { result ≡ form.priority_byte priority }
+/// The byte of a priority: how many priorities are more urgent.
+pub fn priority_byte(priority: Priority) -> u8
+    ensures is { result ≡ form.priority_byte priority }
+    ensures within { result < 5 }
 {
     match priority {
         Priority::VeryHigh => 0,

@@ -4,8 +4,10 @@
 
 mod board;
 mod bodies;
+mod calls;
 mod commanding;
 mod commands;
+mod ending;
 mod faults;
 mod ids;
 mod jobs;
@@ -15,11 +17,14 @@ mod messages;
 mod opening;
 mod recovering;
 mod rules;
+mod spelling;
 mod starts;
 
 pub use board::{Board, Owner};
+pub use calls::{BoardRequest, JobCall};
 pub use commanding::board_command;
 pub use commands::{Command, JobAction};
+pub use ending::{end_unopened, end_with, end_with_text};
 pub use faults::BoardFault;
 pub use ids::{id_text, job_id};
 pub use laws::{
@@ -27,5 +32,6 @@ pub use laws::{
     a_free_job_may_be_claimed, a_job_is_given_up_between_claims, an_id_goes_on_naming_its_job,
     an_id_names_its_first_job, command_has_one_form,
 };
-pub use messages::{applied_line, fault_line, kept_line, not_a_book_text, posted_line};
+pub use messages::{applied_line, call_line, fault_line, kept_line, not_a_book_text, posted_line};
 pub use opening::open;
+pub use spelling::{parse_id, priority_named};

@@ -1,12 +1,13 @@
 ghost use Rattle.std.specs.Prelude.{◌≡◌, ◌≢◌, ◌++◌, ◌∷◌, [], codes, IfOk, IsErr};
 ghost use Rattle.std.specs.List.{flat_map};
 ghost use Rattle.tf_report.specs.Lines.{job_line, owner_text};
-ghost use Rattle.tf_board.specs.Does.{fault_text, fault_status, posted_text, applied_text, kept_text};
+ghost use Rattle.tf_board.specs.Does.{call_text, fault_text, fault_status, posted_text, applied_text, kept_text};
 ghost use Rattle.tf_report.specs.Closing.{not_a_book, book_full};
 ghost use Rattle.tf_board.specs.Board.{id_of, listed};
 ghost use Rattle.tf_board.specs.declared.faults.BoardFault.{BoardFault};
 
 use crate::board::Board;
+use crate::calls::JobCall;
 use crate::commands::JobAction;
 use crate::faults::BoardFault;
 use crate::ids::{id_text, job_id};
@@ -144,6 +145,20 @@ pub fn applied_line(
         JobAction::Abandon => line(alloc, b"abandoned ", id.bytes()),
         JobAction::Consume => line(alloc, b"consumed ", id.bytes()),
         JobAction::Trash => line(alloc, b"trashed ", id.bytes()),
+    }
+}
+
+/// What is said of a call that was made about the job of this number.
+pub fn call_line(alloc: Global, call: &JobCall, job: u64) -> Result<Vec<u8>, Memory>
+    ensures { IfOk result (λ text. text.items ≡ call_text call.now job) }
+{
+    match call {
+        JobCall::Post {
+            name,
+            priority: _,
+            details: _,
+        } => posted_line(alloc, job, name),
+        JobCall::Apply { action, id, owner } => applied_line(alloc, *action, id, owner),
     }
 }
 

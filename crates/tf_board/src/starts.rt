@@ -1,7 +1,9 @@
 ghost use Rattle.std.specs.Prelude.{◌≡◌, ◌∷◌, ◌++◌, ◌<◌, [], List, Option, Some, length};
-ghost use Rattle.tf_board.specs.Seeking.{rank as rank_of, firsts, starts_in as starts_among};
+ghost use Rattle.tf_board.specs.Board.{priority_byte as byte_of};
+ghost use Rattle.tf_board.specs.Seeking.{firsts, starts_in as starts_among};
 ghost use Rattle.tf_states.specs.declared.priorities.Priority.{Priority as APriority};
 
+use crate::commands::priority_byte;
 use crate::jobs::is_priority;
 use tf_states::Priority;
 
@@ -15,16 +17,10 @@ pub struct Starts {
 
 /// How many priorities are more urgent.
 fn rank(priority: Priority) -> usize
-    ensures is { result ≡ rank_of priority }
+    ensures is { result ≡ byte_of priority }
     ensures within { result < 5 }
 {
-    match priority {
-        Priority::VeryHigh => 0,
-        Priority::High => 1,
-        Priority::Normal => 2,
-        Priority::Low => 3,
-        Priority::VeryLow => 4,
-    }
+    priority_byte(priority).into()
 }
 
 /// Notes the place that is free under the priority, unless an earlier one is.

@@ -9,22 +9,22 @@ use Rattle.tf_desk.proofs.StateLemmas.{goes_none, goes_within}
 use Rattle.tf_report.specs.Lines.{job_line}
 use Rattle.tf_report.specs.declared.job_lines.JobLine.{JobLine}
 use Rattle.tf_board.specs.Board.{BoardValue}
-use Rattle.tf_board.specs.Does.{fault_text, fault_of}
+use Rattle.tf_board.specs.Does.{call_text, fault_text, fault_of, asked_for, refuses_call, id_named, job_of}
 use Rattle.tf_board.specs.declared.commands.Command.{Command}
 use Rattle.tf_board.specs.declared.faults.BoardFault.{BoardFault}
 use Rattle.tf_board.specs.declared.faults.BoardFault.TheVariants as fault
 use Rattle.tf_board.specs.declared.rules.Refusal.{Refusal}
 use Rattle.tf_board.specs.declared.rules.Refusal.TheVariants as refusal
-use Rattle.tf_shared_board.specs.Shared.{FailsToAsk, IsRule, IsRuled, fault_for, asked_for, refuses_call, id_named, job_of, SharedValue, HasCause, IsMade, Halts, halt_or_memory}
+use Rattle.tf_shared_board.specs.Shared.{FailsToAsk, IsRule, IsRuled, fault_for, SharedValue, HasCause, IsMade, Halts, halt_or_memory}
 use Rattle.tf_shared_board.specs.declared.calls.BoardHalt.{BoardHalt}
 use Rattle.tf_shared_board.specs.declared.calls.BoardHalt.TheVariants as halt
-use Rattle.tf_shared_board.specs.declared.calls.JobCall.{JobCall}
+use Rattle.tf_board.specs.declared.calls.JobCall.{JobCall}
 use Rattle.tf_shared_board.specs.declared.calls.Made.{Made}
-use Rattle.tf_board_service.specs.Sessions.{Answers, CallsSo, Makes, MakesNoCall, OrHalts, StopsAfter, call_made, unless_refused, call_reply, first_lines, made_line, reply_of, says, without_name, without_feed, list_line}
+use Rattle.tf_board_service.specs.Sessions.{Answers, CallsSo, Makes, MakesNoCall, OrHalts, StopsAfter, call_made, unless_refused, call_reply, first_lines, reply_of, says, without_name, without_feed, list_line}
 use Rattle.tf_board_service.specs.declared.replies.BoardReply.{BoardReply}
 use Rattle.tf_board_service.specs.declared.replies.BoardReply.TheVariants as reply
-use Rattle.tf_board_service.specs.declared.requests.BoardRequest.{BoardRequest}
-use Rattle.tf_board_service.specs.declared.requests.BoardRequest.TheVariants as request
+use Rattle.tf_board.specs.declared.calls.BoardRequest.{BoardRequest}
+use Rattle.tf_board.specs.declared.calls.BoardRequest.TheVariants as request
 use Rattle.tf_board_service.proofs.TurnLemmas.{halts_none, halts_some, stops_unasked}
 
 -- ---- messages of rules
@@ -119,7 +119,7 @@ none_of (Some x) is = (let clash : true ≡ false = is in absurd (cc))
 module _ {K : Type 0} (state : K → DeskState) where
   -- it was made
   pub calls_made : (number job : ℕ) (asked : JobCall) (old new : SharedValue K) (result : Result BoardReply Memory) → IsMade state (record { number = number; job = job; call = asked }) old new
-      → GoesOn anything (state old.board.journal.desk) (state new.board.journal.desk) → IfOk result (λ r. r ≡ says (made_line asked job)) → CallsSo state number asked old new result
+      → GoesOn anything (state old.board.journal.desk) (state new.board.journal.desk) → IfOk result (λ r. r ≡ says (call_text asked job)) → CallsSo state number asked old new result
   calls_made number job asked old new result made goes told =
       let call : call_made number old.board.past (request.Call asked) ≡ Some (record { number = number; job = job; call = asked })
       = ap (λ (o : Option Refusal). unless_refused o (record { number = number; job = job_of old.board.past asked; call = asked })) made.allowed
@@ -128,9 +128,9 @@ module _ {K : Type 0} (state : K → DeskState) where
       = subst (λ (o : Option Made). Makes state o old new) (sym call) (made, goes) in
       by result makes told
     where
-      by : (r : Result BoardReply Memory) → Makes state (call_made number old.board.past (request.Call asked)) old new → IfOk r (λ x. x ≡ says (made_line asked job)) → CallsSo state number asked old new r
+      by : (r : Result BoardReply Memory) → Makes state (call_made number old.board.past (request.Call asked)) old new → IfOk r (λ x. x ≡ says (call_text asked job)) → CallsSo state number asked old new r
       by (Ok x) makes told = record {
-        replied = (told ∙ ap (λ (n : ℕ). says (made_line asked n)) made.job_is ∙ sym (ap (λ (o : Option Refusal). call_reply o old.board.past asked) made.allowed), makes);
+        replied = (told ∙ ap (λ (n : ℕ). says (call_text asked n)) made.job_is ∙ sym (ap (λ (o : Option Refusal). call_reply o old.board.past asked) made.allowed), makes);
         failed = tt;
       }
       by (Err e) makes told = record { replied = tt; failed = inl makes }

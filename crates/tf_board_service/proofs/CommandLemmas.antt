@@ -16,7 +16,7 @@ use Rattle.tf_report.specs.Closing.{ClosesWith, ClosesWithOrStops, disk_fault_te
 use Rattle.tf_report.specs.declared.statuses.TheConstants.{SUCCEEDED, DISK_FAILED, NO_BOOK, UNHIRED, UNSAID, OUT_OF_MEMORY, FULL}
 use Rattle.tf_report.proofs.ClosingLemmas.{closes_from, ends_status}
 use Rattle.tf_board.specs.Board.{AreOfBoard, BoardValue, IsOpened, IsUnopened, LeavesBoard, LeavesHeld, board_in, size_of}
-use Rattle.tf_board.specs.Does.{Concludes, Ends, EndsUnmade, HasCauses, HasJobs, HoldsEither, IsBoard, IsBoardComplete, Reached}
+use Rattle.tf_board.specs.Does.{Concludes, Ends, EndsUnmade, HasCauses, HasJobs, HoldsEither, IsBoard, IsBoardComplete, Reached, without_memory, without_disk, no_board}
 use Rattle.tf_board.specs.declared.commands.Command.{Command}
 use Rattle.tf_board.proofs.ActLemmas.{reached_back}
 use Rattle.tf_board.proofs.DeskLaws.{KeepsLaws}
@@ -28,7 +28,7 @@ use Rattle.tf_shared_board.specs.declared.calls.BoardHalt.{BoardHalt}
 use Rattle.tf_shared_board.specs.declared.calls.BoardHalt.TheVariants as halt
 use Rattle.tf_shared_board.specs.declared.calls.Made.{Made}
 use Rattle.tf_shared_board.proofs.HaltLemmas.{cause_told}
-use Rattle.tf_board_service.specs.Sessions.{AreServedOver, GivesBack, HaltsWith, gave_links, took_links, service_text, HasServiceCauses, IsServiceStatus, is_served, is_failed, is_no_board, is_unsaid, is_unlistened, is_out, is_full, KeepsCalls, LeavesCalls, SaysOrStops, ServesBoard, unopened_memory, unopened_disk, no_board, exhausted, opened_in_vain, unlistened, served, was_said, was_stopped, IsServed}
+use Rattle.tf_board_service.specs.Sessions.{AreServedOver, GivesBack, HaltsWith, gave_links, took_links, service_text, HasServiceCauses, IsServiceStatus, is_served, is_failed, is_no_board, is_unsaid, is_unlistened, is_out, is_full, KeepsCalls, LeavesCalls, SaysOrStops, ServesBoard, unopened, exhausted, opened_in_vain, unlistened, served, was_said, was_stopped, IsServed}
 use Rattle.tf_values.specs.declared.faults.Memory.{Memory}
 use Rattle.tf_board_service.specs.Serving.{IsServing, made_since}
 use Rattle.tf_board_service.specs.declared.sessions.Session.{Session}
@@ -216,9 +216,9 @@ halt_one (Some halt.Memory) = is_out refl
 
 -- it ends with one of its statuses
 pub service_status : {name : List ℕ} {address : Address} {count : ℕ} {old new : DoorTold} {entry now : DeskState} {status : ℕ} → ServesBoard name address count old new entry now status → IsServiceStatus status
-service_status (unopened_memory same is e) = is_out is
-service_status (unopened_disk same e) = closes_status e.closes (is_failed refl)
-service_status (no_board same offset byte none still e) = closes_status e.closes (is_no_board refl)
+service_status (unopened same (without_memory is e)) = is_out is
+service_status (unopened same (without_disk e)) = closes_status e.closes (is_failed refl)
+service_status (unopened same (no_board offset byte none still e)) = closes_status e.closes (is_no_board refl)
 service_status (exhausted past legal has is vain e) = is_out is
 service_status (unlistened past legal has vain e) = closes_status e.closes (is_unlistened refl)
 service_status (served past legal has s) = closes_status s.closes (halt_one s.halted)
@@ -246,10 +246,10 @@ halt_no_board (Some halt.Memory) = λ is. cc
 -- what met no fault was served, or memory ran out, or the board is full
 pub serves_complete : {name : List ℕ} {address : Address} {count : ℕ} {old new : DoorTold} {entry now : DeskState} {status : ℕ} → ServesBoard name address count old new entry now status → IsTrue entry.tells
     → IsBoard (board_in (file_of entry name)) → ¬ (status ≡ DISK_FAILED) → ¬ (status ≡ UNSAID) → ¬ (status ≡ UNHIRED) → IsBoardComplete status
-serves_complete (unopened_memory same is e) told board sound sayable linked = inr (inl is)
-serves_complete {status = status} (unopened_disk same e) told board sound sayable linked =
+serves_complete (unopened same (without_memory is e)) told board sound sayable linked = inr (inl is)
+serves_complete {status = status} (unopened same (without_disk e)) told board sound sayable linked =
     complete_one status (closes_status e.closes (is_failed refl)) sound (apart_no_board e.closes (λ is. cc)) sayable linked
-serves_complete (no_board same offset byte none still e) told board sound sayable linked = absurd (board offset byte (none told))
+serves_complete (unopened same (no_board offset byte none still e)) told board sound sayable linked = absurd (board offset byte (none told))
 serves_complete (exhausted past legal has is vain e) told board sound sayable linked = inr (inl is)
 serves_complete {status = status} (unlistened past legal has vain e) told board sound sayable linked =
     complete_one status (closes_status e.closes (is_unlistened refl)) sound (apart_no_board e.closes (λ is. cc)) sayable linked

@@ -2,11 +2,11 @@
 use Rattle.std.proofs.Common.{◌≡◌, ℕ, List, Option, Some, None, refl, sym, ap, ◌∙◌}
 use Rattle.tf_board.specs.declared.commands.Command.{Command}
 use Rattle.tf_board.specs.declared.rules.Refusal.{Refusal}
-use Rattle.tf_shared_board.specs.Shared.{refuses_call, job_of}
+use Rattle.tf_board.specs.Does.{refuses_call, job_of}
 use Rattle.tf_shared_board.specs.declared.calls.Made.{Made}
 use Rattle.tf_board_service.specs.Sessions.{call_made, unless_refused}
-use Rattle.tf_board_service.specs.declared.requests.BoardRequest.{BoardRequest}
-use Rattle.tf_board_service.specs.declared.requests.BoardRequest.TheVariants as request
+use Rattle.tf_board.specs.declared.calls.BoardRequest.{BoardRequest}
+use Rattle.tf_board.specs.declared.calls.BoardRequest.TheVariants as request
 
 own_unless : (number : ℕ) (o : Option Refusal) (made m : Made) → made.number ≡ number → unless_refused o made ≡ Some m → m.number ≡ number
 own_unless number None made m mine is = (let same : made ≡ m = cc in ap (λ (x : Made). x.number) (sym same) ∙ mine)

@@ -15,7 +15,7 @@ use Rattle.tf_board_service.specs.Serving.{IsServing, ServingValue, made_since}
 use Rattle.tf_board_service.specs.Turning.{seen_calls, start_past}
 use Rattle.tf_board_service.specs.Turns.{HasReplied, HasStopped, HasWaited}
 use Rattle.tf_board_service.specs.declared.replies.BoardReply.{BoardReply}
-use Rattle.tf_board_service.specs.declared.requests.BoardRequest.{BoardRequest}
+use Rattle.tf_board.specs.declared.calls.BoardRequest.{BoardRequest}
 use Rattle.tf_shared_board.proofs.CallLemmas.{length-followed, length-numbered}
 use Rattle.tf_board_service.proofs.OwnLemmas.{own_call}
 use Rattle.tf_board_service.proofs.TurnLemmas.{since_is}

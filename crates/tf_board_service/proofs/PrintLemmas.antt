@@ -11,16 +11,16 @@ use Rattle.tf_board.specs.declared.board.Owner.{Owner}
 use Rattle.tf_board.specs.declared.board.Owner.TheVariants as owned
 use Rattle.tf_board.specs.declared.commands.Command.{Command}
 use Rattle.tf_board.specs.declared.rules.Refusal.{Refusal}
-use Rattle.tf_shared_board.specs.Shared.{refuses_call}
-use Rattle.tf_shared_board.specs.declared.calls.JobCall.{JobCall}
+use Rattle.tf_board.specs.Does.{refuses_call}
+use Rattle.tf_board.specs.declared.calls.JobCall.{JobCall}
 use Rattle.tf_wire.proofs.BoundLemmas.{words_length}
 use Rattle.tf_board.specs.Board.{owner_of}
 use Rattle.tf_board_service.specs.Sessions.{MOST_LINES, call_reply, list_line, owner_reply, reply_data, reply_of}
 use Rattle.tf_board_service.specs.Printing.{HasFewLines, HasTexts}
 use Rattle.tf_board_service.specs.declared.replies.BoardReply.{BoardReply}
 use Rattle.tf_board_service.specs.declared.replies.BoardReply.TheVariants as reply
-use Rattle.tf_board_service.specs.declared.requests.BoardRequest.{BoardRequest}
-use Rattle.tf_board_service.specs.declared.requests.BoardRequest.TheVariants as request
+use Rattle.tf_board.specs.declared.calls.BoardRequest.{BoardRequest}
+use Rattle.tf_board.specs.declared.calls.BoardRequest.TheVariants as request
 
 -- ---- no float
 

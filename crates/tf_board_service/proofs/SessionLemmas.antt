@@ -14,7 +14,7 @@ use Rattle.tf_board_service.specs.Receiving.{HasNothingMore, IsAtEnd, IsKnown, R
 use Rattle.tf_board_service.specs.Turns.{AnswersFrame, HasAnsweredAll, HasNoReply, HasTaken, HasWaited, IsOver, LosesReply, SaysNothing, SoFar, StopsFrame}
 use Rattle.tf_board_service.specs.declared.incoming.Incoming.{Incoming}
 use Rattle.tf_board_service.specs.declared.replies.BoardReply.{BoardReply}
-use Rattle.tf_board_service.specs.declared.requests.BoardRequest.{BoardRequest}
+use Rattle.tf_board.specs.declared.calls.BoardRequest.{BoardRequest}
 use Rattle.tf_board_service.specs.declared.sessions.SessionEnd.{SessionEnd}
 use Rattle.tf_board_service.specs.declared.sessions.SessionEnd.TheVariants as end
 use Rattle.tf_board_service.proofs.FrameLemmas.{Next, Taking, behind_of, came_more, came_none, cut_bad, cut_of, cut_rest, known_taken, le_on, next_of, place_more, prefix_more_sent, read_more, rises_on, sent_more, sent_none, whole_prefix}

@@ -14,7 +14,7 @@ use Rattle.tf_shared_board.proofs.CallLemmas.{followed_more}
 use Rattle.tf_board_service.specs.Sessions.{Answers, Makes, MakesNoCall, StopsAfter, call_made}
 use Rattle.tf_board_service.specs.Serving.{IsServing, ServingValue, made_since}
 use Rattle.tf_board_service.specs.declared.replies.BoardReply.{BoardReply}
-use Rattle.tf_board_service.specs.declared.requests.BoardRequest.{BoardRequest}
+use Rattle.tf_board.specs.declared.calls.BoardRequest.{BoardRequest}
 
 -- what comes after a list's beginning
 drop_begun : {A : Type 0} (xs ys : List A) → drop (length xs) (xs ++ ys) ≡ ys

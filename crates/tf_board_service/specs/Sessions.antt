@@ -1,21 +1,21 @@
--- What clients ask of a board service and what it answers, what each session promises, and how the command goes that serves a board. Lists of commands
--- have the newest first, lists of calls the oldest.
+-- What clients ask of a board service and what it answers, what each session promises, and how the command goes that
+-- serves a board. Lists of commands have the newest first, lists of calls the oldest.
 use Rattle.std.specs.Prelude.{ℕ, ◌-◌, ◌≤◌, List, [], ◌∷◌, length, take, drop, map, codes, Option, Some, None, ◌≡◌, ◌⊎◌, IfSome, IsSome, Result, Ok, Err, IfOk, OnErr, ◌+◌, nat_eq, ◌++◌, slice_get, ◌≢◌, Bool, true, false, ◌<◌, IsTrue, OnOk, option_map, option_and_then, if◌then◌else◌}
 use Rattle.std.specs.List.{AllByRecursion, filter, flat_map, All}
 use Rattle.serde_json.specs.Data.{Data, string, array, object, member, no_members}
 use Rattle.serde_json.specs.View.{items_of}
 use Rattle.tf_report.specs.Lines.{job_line}
 use Rattle.tf_report.specs.declared.job_lines.JobLine.{JobLine}
-use Rattle.tf_board.specs.Board.{owner_of, listed, id_of, AreOfBoard, IsNoBoard, LeavesBoard, board_in}
-use Rattle.tf_board.specs.Does.{refusal_text, posted_text, applied_text, kept_text, Ends, EndsUnmade, HasCauses, HasJobs, HoldsEither}
+use Rattle.tf_board.specs.Board.{parsed_id, priority_named, owner_of, listed, AreOfBoard, LeavesBoard, board_in}
+use Rattle.tf_board.specs.Does.{call_text, refusal_text, kept_text, Ends, EndsUnopened, HasCauses, HasJobs, HoldsEither, refuses_call, id_named, job_of}
 use Rattle.tf_board.specs.declared.board.Owner.{Owner}
 use Rattle.tf_board.specs.declared.commands.Command.{Command}
 use Rattle.tf_board.specs.declared.rules.Refusal.{Refusal}
 use Rattle.tf_wire.specs.Grammar.{frame_of, chain, at, size_of, name_of, value_of, message_of}
-use Rattle.tf_shared_board.specs.Shared.{refuses_call, id_named, job_of, AreAbout, followed_by, SharedValue, HasCause, IsMade, halt_or_memory, IsUnrecorded, LeavesSome, HaltsFor, halt_status, halt_text}
-use Rattle.tf_shared_board.specs.declared.calls.JobCall.{JobCall}
+use Rattle.tf_shared_board.specs.Shared.{AreAbout, followed_by, SharedValue, HasCause, IsMade, halt_or_memory, IsUnrecorded, LeavesSome, HaltsFor, halt_status, halt_text}
+use Rattle.tf_board.specs.declared.calls.JobCall.{JobCall}
 use Rattle.tf_board_service.specs.declared.replies.BoardReply.{BoardReply}
-use Rattle.tf_board_service.specs.declared.requests.BoardRequest.{BoardRequest}
+use Rattle.tf_board.specs.declared.calls.BoardRequest.{BoardRequest}
 use Rattle.tf_desk.specs.State.{DeskState, anything, GoesOn, Says}
 use Rattle.tf_shared_board.specs.declared.calls.BoardHalt.{BoardHalt}
 use Rattle.tf_shared_board.specs.declared.calls.Made.{Made}
@@ -29,26 +29,25 @@ use Rattle.std.specs.Fmt.{decimal}
 use Rattle.tf_desk.specs.Crash.{Pairs, ShowsPrefix}
 use Rattle.tf_journal.specs.Start.{IsStart, file_of}
 use Rattle.tf_ports.specs.declared.crews.Address.{Address}
-use Rattle.tf_report.specs.Closing.{ClosesWith, ClosesWithOrStops, disk_fault_text, not_a_book, cannot_listen}
+use Rattle.tf_report.specs.Closing.{ClosesWith, ClosesWithOrStops, cannot_listen}
 use Rattle.tf_report.specs.declared.statuses.TheConstants.{SUCCEEDED, DISK_FAILED, NO_BOOK, UNHIRED, UNSAID, OUT_OF_MEMORY, FULL}
 use Rattle.serde_json.specs.Find.{as_str}
 use Rattle.tf_states.specs.declared.priorities.Priority.{Priority}
 use Rattle.tf_flow.specs.Tree.{same_name}
-use Rattle.tf_words.specs.Words.{id_in, priority_named}
 use Rattle.tf_board.specs.declared.commands.JobAction.{JobAction}
 use Rattle.tf_board.specs.declared.board.Owner.TheVariants as owned
 use Rattle.tf_board.specs.declared.commands.JobAction.TheVariants as action
 use Rattle.tf_board.specs.declared.rules.Refusal.TheVariants as refusal
-use Rattle.tf_shared_board.specs.declared.calls.JobCall.TheVariants as call
+use Rattle.tf_board.specs.declared.calls.JobCall.TheVariants as call
 use Rattle.tf_board_service.specs.declared.replies.BoardReply.TheVariants as reply
-use Rattle.tf_board_service.specs.declared.requests.BoardRequest.TheVariants as request
+use Rattle.tf_board.specs.declared.calls.BoardRequest.TheVariants as request
 use Rattle.tf_board_service.specs.declared.sessions.SessionEnd.TheVariants as end
 
 -- ---- what a client asks, as JSON: an object with the keys of its call and no others
 
 -- an id, in one of its text forms
 abbrev pub id_spelled : Data → Option (List ℕ)
-id_spelled found = option_and_then id_in (as_str found)
+id_spelled found = option_and_then parsed_id (as_str found)
 
 -- how urgent a job is, by its name
 abbrev pub priority_of : Data → Option Priority
@@ -62,18 +61,11 @@ post_of found =
     chain (at (codes "priority") priority_of found) (λ priority.
     Some (request.Call (call.Post name priority details)))))
 
--- the call by which an owner does this with the job of an id
-abbrev pub call_by : JobAction → List ℕ → List ℕ → JobCall
-call_by action.Claim id owner = call.Claim id owner
-call_by action.Abandon id owner = call.Abandon id owner
-call_by action.Consume id owner = call.Consume id owner
-call_by action.Trash id owner = call.Trash id owner
-
 -- what an owner does with a job
 abbrev pub asks : JobAction → Data → Option BoardRequest
 asks action found =
     chain (at (codes "id") id_spelled found) (λ id.
-    option_map (λ owner. request.Call (call_by action id owner)) (at (codes "owner") name_of found))
+    option_map (λ owner. request.Call (call.Apply action id owner)) (at (codes "owner") name_of found))
 
 -- the member of a question for an owner
 abbrev pub owner_spelled : Data → Option BoardRequest
@@ -111,14 +103,6 @@ without_name message = drop (length (codes "taskflow: ")) (without_feed message)
 
 -- ---- what each request is answered with
 
--- the line that a call says which was made about the job of this number
-abbrev pub made_line : JobCall → ℕ → List ℕ
-made_line (call.Post name priority details) job = posted_text (id_of job name)
-made_line (call.Claim id owner) job = applied_text action.Claim id owner
-made_line (call.Abandon id owner) job = applied_text action.Abandon id owner
-made_line (call.Consume id owner) job = applied_text action.Consume id owner
-made_line (call.Trash id owner) job = applied_text action.Trash id owner
-
 -- one line
 abbrev pub says : List ℕ → BoardReply
 says line = reply.Lines (without_feed line ∷ [])
@@ -129,7 +113,7 @@ refused_for why id = reply.Refused (without_name (refusal_text why id))
 
 -- what a call is answered with, where it is refused for this reason or isn't
 abbrev pub call_reply : Option Refusal → List Command → JobCall → BoardReply
-call_reply None past asked = says (made_line asked (job_of past asked))
+call_reply None past asked = says (call_text asked (job_of past asked))
 call_reply (Some why) past asked = refused_for why (id_named asked)
 
 -- who has the job of an id
@@ -182,12 +166,14 @@ unless_refused (Some why) m = None
 
 -- the call that a request makes after these commands, under this number; none where it is refused, or asks for none
 abbrev pub call_made : ℕ → List Command → BoardRequest → Option Made
-call_made number past (request.Call asked) = unless_refused (refuses_call past asked) (record { number = number; job = job_of past asked; call = asked })
+call_made number past (request.Call asked) =
+    unless_refused (refuses_call past asked) (record { number = number; job = job_of past asked; call = asked })
 call_made number past (request.Owner id) = None
 call_made number past request.List = None
 
 -- a reply is told, or there is no memory for it, and the board is halted
-abbrev pub OrHalts : {K : Type 0} → Result BoardReply Memory → SharedValue K → SharedValue K → Option BoardReply → Type 0
+abbrev pub OrHalts : {K : Type 0} → Result BoardReply Memory → SharedValue K → SharedValue K → Option BoardReply
+    → Type 0
 OrHalts (Ok reply) old new result = (result ≡ Some reply) × (new ≡ old)
 OrHalts (Err memory) old new result = (result ≡ None) × (new ≡ record old { halt = halt_or_memory old.halt })
 
@@ -205,12 +191,18 @@ module _ {K : Type 0} (state : K → DeskState) where
   -- this call was made, and nothing else; or nothing, where there is none
   abbrev pub Makes : Option Made → SharedValue K → SharedValue K → Type 0
   Makes None old new = new ≡ old
-  Makes (Some m) old new = IsMade state m old new × GoesOn anything (state old.board.journal.desk) (state new.board.journal.desk)
+  Makes (Some m) old new =
+      IsMade state m old new × GoesOn anything (state old.board.journal.desk) (state new.board.journal.desk)
 
-  -- a call was made, or it is refused, and this is the reply; or there is no reply: then it was made or wasn't, and the board may be halted
-  pub record CallsSo (number : ℕ) (asked : JobCall) (old new : SharedValue K) (result : Result BoardReply Memory) : Type 0 where
-    pub replied : IfOk result (λ reply. (reply ≡ reply_of old.board.past (request.Call asked)) × Makes (call_made number old.board.past (request.Call asked)) old new)
-    pub failed : OnErr result (Makes (call_made number old.board.past (request.Call asked)) old new ⊎ MakesNoCall old new)
+  -- a call was made, or it is refused, and this is the reply; or there is no reply: then it was made or wasn't, and the
+  -- board may be halted
+  pub record CallsSo (number : ℕ) (asked : JobCall) (old new : SharedValue K)
+      (result : Result BoardReply Memory) : Type 0 where
+    pub replied : IfOk result
+        (λ reply. (reply ≡ reply_of old.board.past (request.Call asked))
+        × Makes (call_made number old.board.past (request.Call asked)) old new)
+    pub failed : OnErr result
+        (Makes (call_made number old.board.past (request.Call asked)) old new ⊎ MakesNoCall old new)
 
   -- it is halted now; the call was made before, or none
   pub record StopsAfter (call : Option Made) (old new : SharedValue K) : Type 0 where
@@ -219,9 +211,12 @@ module _ {K : Type 0} (state : K → DeskState) where
     pub none : MakesNoCall mid new
     pub halted : IsSome new.halt
 
-  -- a request was answered by the reply after the commands before it, and its call was made; or it wasn't answered, and the board is halted
+  -- a request was answered by the reply after the commands before it, and its call was made; or it wasn't answered, and
+  -- the board is halted
   abbrev pub Answers : ℕ → BoardRequest → SharedValue K → SharedValue K → Option BoardReply → Type 0
-  Answers number asked old new (Some reply) = (reply ≡ reply_of old.board.past asked) × (old.halt ≡ None) × Makes (call_made number old.board.past asked) old new
+  Answers number asked old new (Some reply) =
+      (reply ≡ reply_of old.board.past asked) × (old.halt ≡ None)
+      × Makes (call_made number old.board.past asked) old new
   Answers number asked old new None = StopsAfter (call_made number old.board.past asked) old new
 
 -- a board's first commands, so many
@@ -267,17 +262,22 @@ abbrev pub after_point : Option Made → ℕ → ℕ
 after_point None point = point
 after_point (Some m) point = point + 1
 
--- from this least point on no point falls, each after a call of the session's own is greater than that call's, and none passes the commands
+-- from this least point on no point falls, each after a call of the session's own is greater than that call's, and none
+-- passes the commands
 abbrev pub NeverFall : ℕ → List Command → ℕ → List Exchange → Type 0
 NeverFall number past least [] = least ≤ length past
-NeverFall number past least (e ∷ exchanges) = (least ≤ e.point) × NeverFall number past (after_point (call_of number past e) e.point) exchanges
+NeverFall number past least (e ∷ exchanges) =
+    (least ≤ e.point) × NeverFall number past (after_point (call_of number past e) e.point) exchanges
 
 -- the call that it made, if it made one, stands at its point; the first commands were so many
 abbrev pub IsAtPoint : ℕ → List Command → ℕ → List Made → Exchange → Type 0
-IsAtPoint number past first calls e = (m : Made) → call_of number past e ≡ Some m → slice_get calls (e.point - first) ≡ Some m
+IsAtPoint number past first calls e =
+    (m : Made) → call_of number past e ≡ Some m → slice_get calls (e.point - first) ≡ Some m
 
--- the calls of a session are just those of its requests, each once, at its point, in their order; and perhaps this one more after them
-pub record MadeBy (number : ℕ) (past : List Command) (first : ℕ) (calls : List Made) (exchanges : List Exchange) (more : List Made) : Type 0 where
+-- the calls of a session are just those of its requests, each once, at its point, in their order; and perhaps this one
+-- more after them
+pub record MadeBy (number : ℕ) (past : List Command) (first : ℕ) (calls : List Made) (exchanges : List Exchange)
+    (more : List Made) : Type 0 where
   pub calls_are : calls_by number calls ≡ calls_of number past exchanges ++ more
   pub at_points : AllByRecursion (IsAtPoint number past first calls) exchanges
 
@@ -313,9 +313,11 @@ pub record IsCutShort (behind : List ℕ) : Type 0 where
 
 -- ---- sessions
 
--- The link gave some bytes. The frames at their front were read as requests, and each was answered from the commands that stood before it then.
--- The link was sent a prefix of the replies. The calls of the session are just those of its requests.
-pub record Serves (number first : ℕ) (past : List Command) (calls : List Made) (before now : SeenLink) (points : List ℕ) : Type 0 where
+-- The link gave some bytes. The frames at their front were read as requests, and each was answered from the commands
+-- that stood before it then. The link was sent a prefix of the replies. The calls of the session are just those of its
+-- requests.
+pub record Serves (number first : ℕ) (past : List Command) (calls : List Made) (before now : SeenLink)
+    (points : List ℕ) : Type 0 where
   pub given : List ℕ
   pub came : before.left ≡ left_before given now.left
   pub frames : List (List ℕ)
@@ -332,7 +334,8 @@ pub record Serves (number first : ℕ) (past : List Command) (calls : List Made)
   pub ends : before.ends ≤ now.ends
 
 -- the whole of the replies was sent, and no call was made but those of the requests that were answered
-pub record IsFullyAnswered {number first : ℕ} {past : List Command} {calls : List Made} {before now : SeenLink} {points : List ℕ}
+pub record IsFullyAnswered {number first : ℕ} {past : List Command} {calls : List Made} {before now : SeenLink}
+    {points : List ℕ}
     (s : Serves number first past calls before now points) : Type 0 where
   pub sent : now.sent ≡ sent_with before.sent (told_all past s.exchanges)
   pub none_more : s.more ≡ []
@@ -347,19 +350,25 @@ pub record IsNextCall (number : ℕ) (past : List Command) (behind : List ℕ) (
   pub makes : call_made number (first_of point past) request ≡ Some call
   pub is : more ≡ call ∷ []
 
--- How a session ends. Ended: the link ended between two frames. Lost: the link failed, or it ended inside a frame. Bad: at this place stands a
--- frame that spells no request, or a length that no frame has. Halted: one call more may have been made.
-abbrev pub SessionEndsAs : {number first : ℕ} {past : List Command} {calls : List Made} {before now : SeenLink} {points : List ℕ}
+-- How a session ends. Ended: the link ended between two frames. Lost: the link failed, or it ended inside a frame. Bad:
+-- at this place stands a frame that spells no request, or a length that no frame has. Halted: one call more may have
+-- been made.
+abbrev pub SessionEndsAs : {number first : ℕ} {past : List Command} {calls : List Made} {before now : SeenLink}
+    {points : List ℕ}
     → SessionEnd → Serves number first past calls before now points → Type 0
-SessionEndsAs {number} {first} {past} {calls} {before} {now} end.Ended s = IsFullyAnswered s × (s.behind ≡ []) × IsLinkOver before now
+SessionEndsAs {number} {first} {past} {calls} {before} {now} end.Ended s =
+    IsFullyAnswered s × (s.behind ≡ []) × IsLinkOver before now
 SessionEndsAs {number} {first} {past} {calls} {before} {now} end.Lost s =
     ((s.more ≡ []) × Rises before.faults now.faults) ⊎ (IsFullyAnswered s × IsCutShort s.behind × IsLinkOver before now)
 SessionEndsAs {number} {first} {past} {calls} {before} {now} (end.Bad at) s =
-    IsFullyAnswered s × (at ≡ counted (length (joined s.frames))) × (BeginsWith s.behind None ⊎ BeginsWithBadLength s.behind)
-SessionEndsAs {number} {first} {past} {calls} {before} {now} end.Halted s = (s.more ≡ []) ⊎ IsNextCall number past s.behind s.more
+    IsFullyAnswered s × (at ≡ counted (length (joined s.frames)))
+    × (BeginsWith s.behind None ⊎ BeginsWithBadLength s.behind)
+SessionEndsAs {number} {first} {past} {calls} {before} {now} end.Halted s =
+    (s.more ≡ []) ⊎ IsNextCall number past s.behind s.more
 
 -- what a session promises
-pub record IsServed (number first : ℕ) (past : List Command) (calls : List Made) (before now : SeenLink) (session : Session) : Type 0 where
+pub record IsServed (number first : ℕ) (past : List Command) (calls : List Made) (before now : SeenLink)
+    (session : Session) : Type 0 where
   pub serves : Serves number first past calls before now session.points
   pub ends_as : SessionEndsAs session.end serves
 
@@ -433,28 +442,33 @@ pub data OpensInVain (address : Address) (count : ℕ) (old new : DoorTold) (who
 
 -- ---- the sessions
 
--- Sessions were served over these links side by side, from a board that had these commands, and these calls were made: a board may hold their commands,
--- each is about its job, and each is one of these sessions', of which each did just what its requests asked.
-pub record AreServedOver (past : List Command) (made : List Made) (given returned : List SeenLink) (sessions : List Session) : Type 0 where
+-- Sessions were served over these links side by side, from a board that had these commands, and these calls were made:
+-- a board may hold their commands, each is about its job, and each is one of these sessions', of which each did just
+-- what its requests asked.
+pub record AreServedOver (past : List Command) (made : List Made) (given returned : List SeenLink)
+    (sessions : List Session) : Type 0 where
   pub legal : AreOfBoard (followed_by past made)
   pub about : AreAbout past made
   pub numbers : All (λ m. m.number < length given) made
   pub links : length returned ≡ length given
   pub as_many : length sessions ≡ length given
-  pub each : (i : ℕ) (first last : SeenLink) (s : Session) → slice_get given i ≡ Some first → slice_get returned i ≡ Some last → slice_get sessions i ≡ Some s
+  pub each : (i : ℕ) (first last : SeenLink) (s : Session) → slice_get given i ≡ Some first
+      → slice_get returned i ≡ Some last → slice_get sessions i ≡ Some s
       → IsServed i (length past) (followed_by past made) made first last s
 
 -- ---- what the file has, and what a crash leaves
 
--- a crash since the start leaves the commands from before, followed by those of some first of the calls, and nothing said; or all commands, perhaps with
--- the pending one, and a prefix of the message
+-- a crash since the start leaves the commands from before, followed by those of some first of the calls, and nothing
+-- said; or all commands, perhaps with the pending one, and a prefix of the message
 abbrev pub LeavesCalls : List Command → List Made → List Command → DeskState → List ℕ → Pairs
 LeavesCalls past made pending entry message image text =
     (LeavesBoard past entry image text ⊎ LeavesSome past made pending entry image text)
     ⊎ (HoldsEither pending (followed_by past made) (board_in image) × ShowsPrefix entry.shown message (Some text))
 
--- the file has the commands from before followed by those of the calls, or the pending one too; the other files stay; a crash leaves some of the calls
-pub record KeepsCalls (name : List ℕ) (past : List Command) (made : List Made) (halted : Option BoardHalt) (entry now : DeskState) (message : List ℕ)
+-- the file has the commands from before followed by those of the calls, or the pending one too; the other files stay; a
+-- crash leaves some of the calls
+pub record KeepsCalls (name : List ℕ) (past : List Command) (made : List Made) (halted : Option BoardHalt)
+    (entry now : DeskState) (message : List ℕ)
     : Type 0 where
   pub pending : List Command
   pub is_pending : IsUnrecorded halted (followed_by past made) pending
@@ -465,9 +479,10 @@ pub record KeepsCalls (name : List ℕ) (past : List Command) (made : List Made)
 
 -- ---- the command
 
--- sessions were served over the links that the door gave at the address, as many as were asked for, and their lines were said; each link was given back
--- as its session left it, unless memory ran out for that
-pub record ServesOver (name : List ℕ) (address : Address) (count : ℕ) (old new : DoorTold) (entry now : DeskState) (past : List Command) (status : ℕ)
+-- sessions were served over the links that the door gave at the address, as many as were asked for, and their lines
+-- were said; each link was given back as its session left it, unless memory ran out for that
+pub record ServesOver (name : List ℕ) (address : Address) (count : ℕ) (old new : DoorTold) (entry now : DeskState)
+    (past : List Command) (status : ℕ)
     : Type 0 where
   pub made : List Made
   pub given : List SeenLink
@@ -485,25 +500,28 @@ pub record ServesOver (name : List ℕ) (address : Address) (count : ℕ) (old n
   pub keeps : IsTrue entry.tells → KeepsCalls name past made halted entry now (service_text sessions halted)
 
 -- the ways that the command goes
-pub data ServesBoard (name : List ℕ) (address : Address) (count : ℕ) (old new : DoorTold) (entry now : DeskState) (status : ℕ) : Type 0 where
-  -- memory ran out, or the disk failed, before the board was open; or the file is no board
-  unopened_memory : new ≡ old → status ≡ OUT_OF_MEMORY → EndsUnmade name entry now [] OUT_OF_MEMORY status → ServesBoard name address count old new entry now status
-  unopened_disk : new ≡ old → EndsUnmade name entry now disk_fault_text DISK_FAILED status → ServesBoard name address count old new entry now status
-  no_board : new ≡ old → (offset : ℕ) (byte : Option ℕ) → (IsTrue entry.tells → IsNoBoard (board_in (file_of entry name)) offset byte)
-      → (IsTrue entry.tells → file_of now name ≡ file_of entry name) → EndsUnmade name entry now (not_a_book offset byte) NO_BOOK status
-      → ServesBoard name address count old new entry now status
+pub data ServesBoard (name : List ℕ) (address : Address) (count : ℕ) (old new : DoorTold) (entry now : DeskState)
+    (status : ℕ) : Type 0 where
+  -- the board couldn't be opened
+  unopened : new ≡ old → EndsUnopened name entry now status → ServesBoard name address count old new entry now status
   -- memory ran out before any session began, and the board has what it had
-  exhausted : (past : List Command) → AreOfBoard past → HasJobs name entry past → status ≡ OUT_OF_MEMORY → OpensInVain address count old new ⊥
-      → Ends name past [] past entry now [] OUT_OF_MEMORY status → ServesBoard name address count old new entry now status
+  exhausted : (past : List Command) → AreOfBoard past → HasJobs name entry past → status ≡ OUT_OF_MEMORY
+      → OpensInVain address count old new ⊥
+      → Ends name past [] past entry now [] OUT_OF_MEMORY status
+      → ServesBoard name address count old new entry now status
   -- nobody could be listened to, or a link didn't come, which is said
-  unlistened : (past : List Command) → AreOfBoard past → HasJobs name entry past → OpensInVain address count old new (Unit {0})
-      → Ends name past [] past entry now cannot_listen UNHIRED status → ServesBoard name address count old new entry now status
+  unlistened : (past : List Command) → AreOfBoard past → HasJobs name entry past
+      → OpensInVain address count old new (Unit {0})
+      → Ends name past [] past entry now cannot_listen UNHIRED status
+      → ServesBoard name address count old new entry now status
   -- sessions were served
-  served : (past : List Command) → AreOfBoard past → HasJobs name entry past → ServesOver name address count old new entry now past status
+  served : (past : List Command) → AreOfBoard past → HasJobs name entry past
+      → ServesOver name address count old new entry now past status
       → ServesBoard name address count old new entry now status
 
 -- a message closed the command, or memory ran out for it and nothing happened
-pub data SaysOrStops {K : Type 0} (state : K → DeskState) (message : List ℕ) (wanted : ℕ) (old now : K) (status : ℕ) : Type 0 where
+pub data SaysOrStops {K : Type 0} (state : K → DeskState) (message : List ℕ) (wanted : ℕ) (old now : K)
+    (status : ℕ) : Type 0 where
   was_stopped : status ≡ OUT_OF_MEMORY → now ≡ old → SaysOrStops state message wanted old now status
   was_said : Says message (state old) (state now) → ClosesWith (state old).shown message wanted (state now).shown status
       → SaysOrStops state message wanted old now status
@@ -518,8 +536,8 @@ pub data IsServiceStatus (status : ℕ) : Type 0 where
   is_out : status ≡ OUT_OF_MEMORY → IsServiceStatus status
   is_full : status ≡ FULL → IsServiceStatus status
 
--- no count falls and nobody is asked for a stop; the disk failed, a text couldn't be said and nobody could be listened to only where the count of such
--- faults rose
+-- no count falls and nobody is asked for a stop; the disk failed, a text couldn't be said and nobody could be listened
+-- to only where the count of such faults rose
 pub record HasServiceCauses (old new : DeskState) (door_then door_now status : ℕ) : Type 0 where
   pub desk : HasCauses old new status
   pub door : door_then ≤ door_now

@@ -27,13 +27,15 @@ module _ {K : Type 0} where
 
 module _ {K : Type 0} where
   -- the turnstile was made as the call began, and the pass of this number is as it was made
-  pub record IsAppointed (turnstile : TurnstileValue (ServingValue K)) (number : ℕ) (pass : PassValue (ServingValue K) Made) : Type 0 where
+  pub record IsAppointed (turnstile : TurnstileValue (ServingValue K)) (number : ℕ)
+      (pass : PassValue (ServingValue K) Made) : Type 0 where
     pub fresh : IsFresh turnstile
     pub few : number < 64
     pub made : pass ≡ new_pass turnstile number
 
   -- the session of this number is over
-  pub record HasServed (turnstile : TurnstileValue (ServingValue K)) (number : ℕ) (before now : SeenLink) (points : List ℕ) (how : SessionEnd)
+  pub record HasServed (turnstile : TurnstileValue (ServingValue K)) (number : ℕ) (before now : SeenLink)
+      (points : List ℕ) (how : SessionEnd)
       (pass : PassValue (ServingValue K) Made) : Type 0 where
     pub idle : IsIdle turnstile number pass
     pub over : IsOver number (start_past turnstile) (seen_calls pass) before now points how

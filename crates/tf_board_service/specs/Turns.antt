@@ -1,4 +1,5 @@
--- What one turn adds to the calls, and a session while it goes on. Lists of commands have the newest first, lists of calls the oldest.
+-- What one turn adds to the calls, and a session while it goes on. Lists of commands have the newest first, lists of
+-- calls the oldest.
 use Rattle.std.specs.Prelude.{◌≡◌, ◌≢◌, ◌⊎◌, ℕ, ◌≤◌, List, [], ◌∷◌, ◌++◌, length, Option, Some, None}
 use Rattle.std.specs.List.{AllByRecursion}
 use Rattle.tf_numbers.specs.Numbers.{Rises}
@@ -10,7 +11,7 @@ use Rattle.tf_shared_board.specs.declared.calls.Made.{Made}
 use Rattle.tf_board_service.specs.Sessions.{call_made, Exchange, MadeBy, NeverFall, as_list, points_of, told_all, reply_frame, reply_of, AreRead, IsServed, board_request_in}
 use Rattle.tf_board_service.specs.Receiving.{IsKnown}
 use Rattle.tf_board_service.specs.declared.replies.BoardReply.{BoardReply}
-use Rattle.tf_board_service.specs.declared.requests.BoardRequest.{BoardRequest}
+use Rattle.tf_board.specs.declared.calls.BoardRequest.{BoardRequest}
 use Rattle.tf_board_service.specs.declared.sessions.SessionEnd.{SessionEnd}
 use Rattle.tf_board_service.specs.declared.sessions.SessionEnd.TheVariants as end
 
@@ -22,8 +23,10 @@ pub record HasWaited (number : ℕ) (old mid : List Made) : Type 0 where
   pub is : mid ≡ old ++ others
   pub apart : AllByRecursion (λ m. m.number ≢ number) others
 
--- others' calls were made; then a request was answered from the commands that there were, and the call that it makes was made
-pub record HasReplied (past : List Command) (number : ℕ) (asked : BoardRequest) (old new : List Made) (point : ℕ) (reply : BoardReply) : Type 0 where
+-- others' calls were made; then a request was answered from the commands that there were, and the call that it makes
+-- was made
+pub record HasReplied (past : List Command) (number : ℕ) (asked : BoardRequest) (old new : List Made) (point : ℕ)
+    (reply : BoardReply) : Type 0 where
   pub mid : List Made
   pub waited : HasWaited number old mid
   pub point_is : point ≡ length (followed_by past mid)
@@ -46,7 +49,8 @@ KnowsTurn past number asked old new (Some r) = HasReplied past number asked old 
 -- ---- one frame
 
 -- a frame was answered: a turn was taken for the request that it spells, and its point was kept
-pub record HasTaken (number : ℕ) (past : List Command) (frame : List ℕ) (old new : List Made) (old_points new_points : List ℕ) (reply : BoardReply) : Type 0 where
+pub record HasTaken (number : ℕ) (past : List Command) (frame : List ℕ) (old new : List Made)
+    (old_points new_points : List ℕ) (reply : BoardReply) : Type 0 where
   pub asked : BoardRequest
   pub read : board_request_in frame ≡ Some asked
   pub point : ℕ
@@ -60,14 +64,16 @@ pub record TakesNothing (before now : SeenLink) : Type 0 where
   pub ends : before.ends ≤ now.ends
 
 -- its reply was sent
-pub record AnswersFrame (number : ℕ) (past : List Command) (frame : List ℕ) (old new : List Made) (old_points new_points : List ℕ) (before now : SeenLink) : Type 0 where
+pub record AnswersFrame (number : ℕ) (past : List Command) (frame : List ℕ) (old new : List Made)
+    (old_points new_points : List ℕ) (before now : SeenLink) : Type 0 where
   pub reply : BoardReply
   pub taken : HasTaken number past frame old new old_points new_points reply
   pub none : TakesNothing before now
   pub sent : now.sent ≡ sent_with before.sent (reply_frame reply)
 
 -- the link couldn't send it
-pub record LosesReply (number : ℕ) (past : List Command) (frame : List ℕ) (old new : List Made) (old_points new_points : List ℕ) (before now : SeenLink) : Type 0 where
+pub record LosesReply (number : ℕ) (past : List Command) (frame : List ℕ) (old new : List Made)
+    (old_points new_points : List ℕ) (before now : SeenLink) : Type 0 where
   pub reply : BoardReply
   pub taken : HasTaken number past frame old new old_points new_points reply
   pub none : TakesNothing before now
@@ -86,9 +92,11 @@ pub record HasNoReply (number : ℕ) (past : List Command) (frame : List ℕ) (o
   pub turn : HasStopped past number asked old new
 
 -- why a frame wasn't answered: it spells no request, the link couldn't send, the board is halted, or memory ran out
-abbrev pub StopsFrame : ℕ → List Command → List ℕ → ℕ → List Made → List Made → List ℕ → List ℕ → SeenLink → SeenLink → SessionEnd → Type 0
+abbrev pub StopsFrame : ℕ → List Command → List ℕ → ℕ → List Made → List Made → List ℕ → List ℕ → SeenLink → SeenLink
+    → SessionEnd → Type 0
 StopsFrame number past frame place old new old_points new_points before now end.Ended = ⊥
-StopsFrame number past frame place old new old_points new_points before now end.Lost = LosesReply number past frame old new old_points new_points before now
+StopsFrame number past frame place old new old_points new_points before now end.Lost =
+    LosesReply number past frame old new old_points new_points before now
 StopsFrame number past frame place old new old_points new_points before now (end.Bad at) =
     SaysNothing old_points new_points before now × (new ≡ old) × (board_request_in frame ≡ None) × (at ≡ place)
 StopsFrame number past frame place old new old_points new_points before now end.Halted =
@@ -97,7 +105,8 @@ StopsFrame number past frame place old new old_points new_points before now end.
 -- ---- a session while it goes on
 
 -- the link gave these bytes, and each of these frames was answered, as an exchange
-pub record SoFar (number : ℕ) (past : List Command) (calls : List Made) (before now : SeenLink) (points : List ℕ) (given : List ℕ) (frames : List (List ℕ))
+pub record SoFar (number : ℕ) (past : List Command) (calls : List Made) (before now : SeenLink) (points : List ℕ)
+    (given : List ℕ) (frames : List (List ℕ))
     (exchanges : List Exchange) : Type 0 where
   pub came : before.left ≡ left_before given now.left
   pub read : AreRead frames exchanges
@@ -109,7 +118,8 @@ pub record SoFar (number : ℕ) (past : List Command) (calls : List Made) (befor
   pub ends : before.ends ≤ now.ends
 
 -- every frame that was taken was answered, and the next one stands at this place
-pub record HasAnsweredAll (number : ℕ) (past : List Command) (calls : List Made) (before now : SeenLink) (points : List ℕ) (kept : KeptFrames) (place : ℕ)
+pub record HasAnsweredAll (number : ℕ) (past : List Command) (calls : List Made) (before now : SeenLink)
+    (points : List ℕ) (kept : KeptFrames) (place : ℕ)
     (refused : Option ℕ) : Type 0 where
   pub given : List ℕ
   pub taken : List (List ℕ)

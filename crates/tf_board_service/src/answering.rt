@@ -1,21 +1,20 @@
 // How a request is answered from a shared board.
-ghost use Rattle.std.specs.Prelude.{◌≡◌, ◌≢◌, ◌<◌, ◌≤◌, ◌+◌, ◌++◌, ◌∷◌, List, [], IfOk, IfErr, length, map, take};
-ghost use Rattle.tf_board.specs.Does.{fault_text};
+ghost use Rattle.std.specs.Prelude.{◌≡◌, ◌≢◌, ◌<◌, ◌≤◌, ◌+◌, ◌++◌, ◌∷◌, List, [], IfOk, length, map, take};
+ghost use Rattle.tf_board.specs.Does.{call_text, fault_text};
 ghost use Rattle.tf_board.specs.Board.{owner_of, listed};
 ghost use Rattle.tf_shared_board.specs.Shared.{IsRule};
 ghost use Rattle.tf_shared_board.specs.declared.calls.Made.{Made};
-ghost use Rattle.tf_board_service.specs.Sessions.{Answers, CallsSo, OrHalts, made_line, says, owner_reply, first_lines, list_line, without_name};
+ghost use Rattle.tf_board_service.specs.Sessions.{Answers, CallsSo, OrHalts, says, owner_reply, first_lines, list_line, without_name};
 
 use crate::lines::{line_text, message_text};
 use crate::replies::BoardReply;
-use crate::requests::BoardRequest;
 use std::alloc::Global;
 use tf_board::{
-    Board, BoardFault, JobAction, Owner, applied_line, fault_line, id_text, kept_line, posted_line,
+    Board, BoardFault, BoardRequest, JobCall, Owner, call_line, fault_line, id_text, kept_line,
 };
 use tf_desk::Desk;
 use tf_report::{JobLine, jobs};
-use tf_shared_board::{CallFault, JobCall, SharedBoard};
+use tf_shared_board::{CallFault, SharedBoard};
 use tf_values::{Memory, Text, Texts};
 use uuid::Uuid;
 
@@ -32,23 +31,6 @@ fn one_line(alloc: Global, line: &[u8]) -> Result<BoardReply, Memory>
     Ok(BoardReply::Lines(Texts::make(lines)))
 }
 
-/// The line that a call says which was made about the job of this number.
-fn line_of_call(alloc: Global, call: &JobCall, job: u64) -> Result<Vec<u8>, Memory>
-    ensures { IfOk result (λ line. line.items ≡ made_line call.now job) }
-{
-    match call {
-        JobCall::Post {
-            name,
-            priority: _,
-            details: _,
-        } => posted_line(alloc, job, name),
-        JobCall::Claim { id, owner } => applied_line(alloc, JobAction::Claim, id, owner),
-        JobCall::Abandon { id, owner } => applied_line(alloc, JobAction::Abandon, id, owner),
-        JobCall::Consume { id, owner } => applied_line(alloc, JobAction::Consume, id, owner),
-        JobCall::Trash { id, owner } => applied_line(alloc, JobAction::Trash, id, owner),
-    }
-}
-
 /// The reply to the last call of a shared board, which was made about the job of this number.
 fn made_reply<K: Desk>(
     alloc: Global,
@@ -57,12 +39,12 @@ fn made_reply<K: Desk>(
 ) -> Result<BoardReply, Memory>
     requires some { shared.now.made ≢ [] }
     ensures { (before : List Made) (m : Made) → shared.now.made ≡ before ++ m ∷ []
-        → IfOk result (λ reply. reply ≡ says (made_line m.call job)) }
+        → IfOk result (λ reply. reply ≡ says (call_text m.call job)) }
 {
     let Some(made) = shared.made().last() else {
         unreachable!()
     };
-    let line = line_of_call(alloc, &made.call, job)?;
+    let line = call_line(alloc, &made.call, job)?;
     one_line(alloc, &line)
 }
 

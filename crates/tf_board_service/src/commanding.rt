@@ -1,26 +1,20 @@
 // The command that serves a board.
-ghost use Rattle.std.specs.Prelude.{◌≡◌, ◌≢◌, ◌⊎◌, ◌≤◌, ℕ, List, false, length, map, vec_len, IfOk, IfErr};
-ghost use Rattle.tf_board.specs.Board.{IsOpened, IsUnopened};
-ghost use Rattle.tf_board.specs.Does.{Concludes};
+ghost use Rattle.std.specs.Prelude.{◌≡◌, ◌≢◌, ◌⊎◌, ◌≤◌, ℕ, List, false, map, vec_len, IfOk, IfErr};
+ghost use Rattle.tf_board.specs.Board.{IsOpened};
 ghost use Rattle.tf_board_service.specs.Sessions.{GivesBack, GivesInVain, HasServiceCauses, SaysOrStops, ServesBoard, gave_links};
-ghost use Rattle.tf_desk.specs.State.{Says};
 ghost use Rattle.tf_numbers.specs.Numbers.{Rises};
 ghost use Rattle.tf_ports.specs.Ports.{DoorTold, opened_at, seen_link};
 ghost use Rattle.tf_ports.specs.declared.crews.Address.{Address as AnAddress};
-ghost use Rattle.tf_report.specs.Closing.{ClosesWith};
 
 use crate::saying::closing;
 use crate::service::{ServedBoard, serve_board};
 use std::alloc::Global;
 use std::sync::Wait;
 use std::thread::Threads;
-use tf_board::{Board, not_a_book_text, open};
+use tf_board::{Board, end_unopened, end_with, open};
 use tf_desk::Desk;
-use tf_journal::LoadFault;
 use tf_ports::{Address, Door, PortFault};
-use tf_report::{
-    CANNOT_LISTEN, DISK_FAILED, DISK_FAULT, NO_BOOK, OUT_OF_MEMORY, UNHIRED, UNSAID, close,
-};
+use tf_report::{CANNOT_LISTEN, OUT_OF_MEMORY, UNHIRED, UNSAID, close};
 use tf_shared_board::{SharedBoard, halt_status};
 use tf_values::{Memory, Text};
 
@@ -43,24 +37,12 @@ pub fn serve_command<K: Desk + Send, D: Door, R: Threads + Wait + Sync>(
 {
     match open(alloc, desk, name) {
         Ok(board) => listen_and_serve(rt, alloc, address, count, board, door),
-        Err((desk, fault)) => refuse(alloc, desk, fault),
+        Err((desk, fault)) => end_unopened(alloc, desk, fault),
     }
 }
 
-/// Says a message, with which the command is over.
-fn say<K: Desk>(mut desk: K, message: &[u8], status: u8) -> (K, u8)
-    ensures closes { ClosesWith (K.state desk).shown message.now status (K.state result.0).shown result.1 }
-    ensures says { Says message.now (K.state desk) (K.state result.0) }
-    ensures unsaid { result.1 ≡ UNSAID → status ≢ UNSAID
-        → Rises (K.state desk).out_faults (K.state result.0).out_faults }
-    ensures status { result.1 ≢ UNSAID → result.1 ≡ status }
-{
-    let status = close(message, status, &mut desk);
-    (desk, status)
-}
-
 /// Says a text, unless memory ran out for it.
-fn say_text<K: Desk>(desk: K, text: Result<Vec<u8>, Memory>, status: u8) -> (K, u8)
+fn say_text<K: Desk>(mut desk: K, text: Result<Vec<u8>, Memory>, status: u8) -> (K, u8)
     ensures says { (message : List ℕ) → IfOk text (λ t. t.items ≡ message)
         → SaysOrStops K.state message status desk result.0 result.1 }
     ensures unsaid { result.1 ≡ UNSAID → status ≢ UNSAID
@@ -68,29 +50,11 @@ fn say_text<K: Desk>(desk: K, text: Result<Vec<u8>, Memory>, status: u8) -> (K, 
     ensures status { result.1 ≢ UNSAID → (result.1 ≡ status) ⊎ (result.1 ≡ OUT_OF_MEMORY) }
 {
     match text {
-        Ok(text) => say(desk, &text, status),
-        Err(_) => (desk, OUT_OF_MEMORY),
-    }
-}
-
-/// Says why a board couldn't be opened, unless memory ran out.
-fn refuse<K: Desk>(alloc: Global, desk: K, fault: LoadFault) -> (K, u8)
-    requires new_format { fault ≢ LoadFault.Old }
-    ensures serves { (name : List ℕ) (address : AnAddress) (count : ℕ) (door : DoorTold) (entry : K)
-        → IsUnopened name fault (K.state entry) (K.state desk)
-        → ServesBoard name address count door door (K.state entry) (K.state result.0) result.1 }
-    ensures concludes { Concludes (K.state desk) (K.state result.0) result.1 }
-    ensures failed { result.1 ≡ DISK_FAILED → fault ≡ LoadFault.Disk }
-    ensures listened { result.1 ≢ UNHIRED }
-{
-    match fault {
-        LoadFault::Disk => say(desk, DISK_FAULT, DISK_FAILED),
-        LoadFault::NotABook { offset, byte } => {
-            let text = not_a_book_text(alloc, offset, byte);
-            say_text(desk, text, NO_BOOK)
+        Ok(text) => {
+            let status = close(&text, status, &mut desk);
+            (desk, status)
         }
-        LoadFault::Memory => (desk, OUT_OF_MEMORY),
-        LoadFault::Old => unreachable!(),
+        Err(_) => (desk, OUT_OF_MEMORY),
     }
 }
 
@@ -113,7 +77,7 @@ fn listen_and_serve<K: Desk + Send, D: Door, R: Threads + Wait + Sync>(
 {
     match door.listen(alloc, address) {
         Ok(()) => accept_and_serve(rt, alloc, count, board, door),
-        Err(PortFault::Failed) => say(board.close(), CANNOT_LISTEN, UNHIRED),
+        Err(PortFault::Failed) => end_with(board.close(), CANNOT_LISTEN, UNHIRED),
         Err(PortFault::Memory) => (board.close(), OUT_OF_MEMORY),
     }
 }
@@ -136,7 +100,7 @@ fn accept_and_serve<K: Desk + Send, D: Door, R: Threads + Wait + Sync>(
 {
     match accept_all(alloc, count, door) {
         Ok(links) => serve_over(rt, alloc, board, links, door),
-        Err(PortFault::Failed) => say(board.close(), CANNOT_LISTEN, UNHIRED),
+        Err(PortFault::Failed) => end_with(board.close(), CANNOT_LISTEN, UNHIRED),
         Err(PortFault::Memory) => (board.close(), OUT_OF_MEMORY),
     }
 }

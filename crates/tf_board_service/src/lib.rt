@@ -18,6 +18,6 @@ mod turns;
 pub use commanding::serve_command;
 pub use printing::print_reply;
 pub use replies::BoardReply;
-pub use requests::{BoardRequest, read_board_request};
+pub use requests::read_board_request;
 pub use service::{ServedBoard, serve_board};
 pub use sessions::{Points, Session, SessionEnd, Sessions};

@@ -3,25 +3,15 @@ ghost use Rattle.std.specs.Prelude.{◌≡◌, nat_eq, codes, None, Ok, IfOk, op
 ghost use Rattle.serde_json.specs.Find.{as_str};
 ghost use Rattle.serde_json.specs.View.{view};
 ghost use Rattle.tf_wire.specs.Grammar.{at, size_of, name_of as name_spelled, value_of as value_spelled};
-ghost use Rattle.tf_board_service.specs.Sessions.{board_request_in, request_of as request_spelled, call_named as call_of_word, post_of as post_spelled, asks as asks_by, call_by as call_of_action, owner_spelled, id_spelled, priority_of as priority_spelled};
+ghost use Rattle.tf_board_service.specs.Sessions.{board_request_in, request_of as request_spelled, call_named as call_of_word, post_of as post_spelled, asks as asks_by, owner_spelled, id_spelled, priority_of as priority_spelled};
 
 use serde_json::Value;
 use std::alloc::Global;
-use tf_board::JobAction;
-use tf_shared_board::JobCall;
+use tf_board::{BoardRequest, JobAction, JobCall, parse_id, priority_named};
 use tf_states::Priority;
 use tf_values::{Memory, Name, Val};
 use tf_wire::{message_of, name_of, value_of};
-use tf_words::priority_named;
 use uuid::Uuid;
-
-/// What a client asks of a board: a call of the shared board, who has the job of an id, or which jobs there are.
-#[derive(Debug, Drop)]
-pub enum BoardRequest {
-    Call(JobCall),
-    Owner { id: Uuid },
-    List,
-}
 
 /// The request that a frame spells: a JSON object with the keys of its call and no others. None where it spells none.
 pub fn read_board_request(alloc: Global, frame: &[u8]) -> Result<Option<BoardRequest>, Memory>
@@ -168,7 +158,7 @@ fn id_of(value: &Value) -> Option<Uuid>
     ensures { result ≡ id_spelled (view value.now) }
 {
     match value.as_str() {
-        Some(word) => tf_words::id_of(word),
+        Some(word) => parse_id(word),
         None => None,
     }
 }
@@ -193,19 +183,7 @@ fn applied_of(message: &Value, action: JobAction) -> Option<BoardRequest>
 {
     let id = id_at(message)?;
     let owner = name_at(message, "owner")?;
-    Some(BoardRequest::Call(call_by(action, id, owner)))
-}
-
-/// The call by which an owner does this with the job of an id.
-fn call_by(action: JobAction, id: Uuid, owner: Name) -> JobCall
-    ensures { result ≡ call_of_action action id owner }
-{
-    match action {
-        JobAction::Claim => JobCall::Claim { id, owner },
-        JobAction::Abandon => JobCall::Abandon { id, owner },
-        JobAction::Consume => JobCall::Consume { id, owner },
-        JobAction::Trash => JobCall::Trash { id, owner },
-    }
+    Some(BoardRequest::Call(JobCall::Apply { action, id, owner }))
 }
 
 /// Who has the job of the id that the members of an object spell, or none.

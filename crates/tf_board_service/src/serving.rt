@@ -10,11 +10,12 @@ ghost use Rattle.tf_board_service.specs.Turns.{AnswersFrame, HasAnsweredAll, Has
 use crate::incoming::Incoming;
 use crate::printing::print_reply;
 use crate::replies::BoardReply;
-use crate::requests::{BoardRequest, read_board_request};
+use crate::requests::read_board_request;
 use crate::sessions::SessionEnd;
 use crate::turns::Serving;
 use std::alloc::Global;
 use std::sync::Wait;
+use tf_board::BoardRequest;
 use tf_desk::Desk;
 use tf_ports::Link;
 use tf_turnstile::{Pass, Turnstile};

@@ -1,15 +1,15 @@
 // What sessions hand round.
-ghost use Rattle.std.specs.Prelude.{◌≡◌, ◌<◌, ◌^◌, ◌+◌, IsSome, is_some, length};
+ghost use Rattle.std.specs.Prelude.{◌≡◌, ◌<◌, ◌^◌, is_some, length};
 ghost use Rattle.tf_board.specs.Board.{AreOfBoard};
 ghost use Rattle.tf_shared_board.specs.Shared.{numbered, IsShared};
 ghost use Rattle.tf_board_service.specs.Serving.{HasAnswered, HasHalted, IsServing};
 
 use crate::answering::answer;
 use crate::replies::BoardReply;
-use crate::requests::BoardRequest;
 use std::alloc::Global;
 use std::marker::Model;
 use std::snapshot::Snapshot;
+use tf_board::BoardRequest;
 use tf_desk::Desk;
 use tf_shared_board::{Made, SharedBoard};
 use tf_turnstile::Kept;

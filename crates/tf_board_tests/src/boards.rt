@@ -1,23 +1,25 @@
+//! Boards in memory, and the jobs on them.
 ghost use Rattle.std.specs.Prelude.{◌≡◌, false, IfOk};
 
 use std::alloc::Global;
-use std::process::Abort;
 use std::test::Fail;
-use tf_board::{Board, Owner, job_id};
+use tf_board::{Board, JobCall};
 use tf_desk::{Desk, MemoryDesk};
-use tf_report::Priority;
+use tf_shared_board::SharedBoard;
+use tf_states::Priority;
 use tf_values::{Name, Text, Val};
-use uuid::Uuid;
 
-/// These numbers, as those of the calls that fail.
-fn numbers(alloc: Global, items: &[u64]) -> Result<Vec<u64>, Fail> {
-    let list = Vec::from_slice(alloc, items)?;
-    Ok(list)
+/// The name of these bytes.
+pub(crate) fn named(bytes: &[u8]) -> Result<Name, Fail>
+    ensures { IfOk result (λ name. name ≡ bytes.now) }
+{
+    Ok(Name::make(bytes).ok_or("no name")?)
 }
 
-/// A desk of whose calls these fail.
-fn desk_of(alloc: Global, failing: Vec<u64>) -> Result<MemoryDesk, Fail> {
-    let desk = MemoryDesk::make(alloc, 4096, 100, failing, Vec::new(alloc))?;
+/// A desk of whose calls the stated ones fail.
+pub(crate) fn desk(alloc: Global, failing: &[u64]) -> Result<MemoryDesk, Fail> {
+    let failing = Vec::from_slice(alloc, failing)?;
+    let desk = MemoryDesk::make(alloc, 262_144, 100_000, failing, Vec::new(alloc))?;
     Ok(desk)
 }
 
@@ -44,133 +46,42 @@ fn loaded<K: Desk>(alloc: Global, desk: K) -> Result<Board<K>, Fail>
 pub(crate) fn empty_board(alloc: Global, failing: &[u64]) -> Result<Board<MemoryDesk>, Fail>
     ensures { IfOk result (λ board. board.journal.halted ≡ false) }
 {
-    let failing = numbers(alloc, failing)?;
-    let mut desk = desk_of(alloc, failing)?;
+    let mut desk = desk(alloc, failing)?;
     pick(alloc, &mut desk)?;
     loaded(alloc, desk)
 }
 
-/// The name of these bytes.
-pub(crate) fn named(bytes: &[u8]) -> Result<Name, Fail> {
-    match Name::make(bytes) {
-        Some(name) => Ok(name),
-        None => Err(Fail::from("no name")),
-    }
+/// Such a board that is shared.
+pub(crate) fn shared_board(
+    alloc: Global,
+    failing: &[u64],
+) -> Result<SharedBoard<MemoryDesk>, Fail> {
+    let board = empty_board(alloc, failing)?;
+    Ok(SharedBoard::make(alloc, board))
 }
 
-/// The id of the job of that number and name.
-pub(crate) fn id(alloc: Global, number: u64, name: Name) -> Result<Uuid, Fail> {
-    match job_id(alloc, number, &name) {
-        Ok(id) => Ok(id),
-        Err(_) => Err(Fail::from("no memory")),
+/// A call more, made by nobody of those who work.
+pub(crate) fn call(shared: &mut SharedBoard<MemoryDesk>, call: JobCall) -> Result<(), Fail> {
+    if shared.call(63, call).is_err() {
+        return Err(Fail::from("not made"));
     }
+    Ok(())
 }
 
-/// The number of the job that is posted.
-fn posted<K: Desk>(
-    board: &mut Board<K>,
-    name: Name,
+/// A job more.
+pub(crate) fn post(
+    shared: &mut SharedBoard<MemoryDesk>,
+    name: &[u8],
     priority: Priority,
     details: Val,
-) -> Option<u64> {
-    board.post(name, priority, details).ok()
-}
-
-/// Whether somebody claims the job of that id.
-fn claims<K: Desk>(board: &mut Board<K>, id: Uuid, owner: Name) -> bool {
-    board.claim(&id, &owner).is_ok()
-}
-
-/// Whether somebody abandons the job of that id.
-fn abandons<K: Desk>(board: &mut Board<K>, id: Uuid, owner: Name) -> bool {
-    board.abandon(&id, &owner).is_ok()
-}
-
-/// Whether somebody consumes the job of that id.
-fn consumes<K: Desk>(board: &mut Board<K>, id: Uuid, owner: Name) -> bool {
-    board.consume(&id, &owner).is_ok()
-}
-
-/// Whether somebody trashes the job of that id.
-fn trashes<K: Desk>(board: &mut Board<K>, id: Uuid, owner: Name) -> bool {
-    board.trash(&id, &owner).is_ok()
-}
-
-/// Whether the job of that id is somebody's.
-fn is_of<K: Desk>(board: &Board<K>, id: Uuid, name: Name) -> bool {
-    match board.owner(&id) {
-        Owner::Of(owner) => owner == name,
-        _ => false,
-    }
-}
-
-/// How many jobs are listed.
-fn listed<K: Desk>(board: &Board<K>) -> Result<usize, Fail> {
-    match board.list() {
-        Ok(list) => Ok(list.len()),
-        Err(_) => Err(Fail::from("no memory")),
-    }
-}
-
-#[test]
-fn a_job_is_claimed_abandoned_and_consumed(rt: HostRuntime) -> Result<(), Fail> {
-    let alloc = rt.alloc();
-    let mut board = empty_board(alloc, &[])?;
-    let build = named(b"build")?;
-    let ann = named(b"ann")?;
-    let id = id(alloc, 1, build)?;
-    assert!(rt; posted(&mut board, build, Priority::Low, Val::Nothing) == Some(1));
-    assert!(rt; claims(&mut board, id, ann));
-    assert!(rt; is_of(&board, id, ann));
-    assert!(rt; abandons(&mut board, id, ann));
-    assert!(rt; claims(&mut board, id, ann));
-    assert!(rt; listed(&board)? == 1);
-    assert!(rt; consumes(&mut board, id, ann));
-    assert!(rt; listed(&board)? == 0);
-    Ok(())
-}
-
-#[test]
-fn a_claimed_job_is_trashed(rt: HostRuntime) -> Result<(), Fail> {
-    let alloc = rt.alloc();
-    let mut board = empty_board(alloc, &[])?;
-    let build = named(b"build")?;
-    let ann = named(b"ann")?;
-    let id = id(alloc, 1, build)?;
-    assert!(rt; posted(&mut board, build, Priority::Low, Val::Nothing).is_some());
-    assert!(rt; claims(&mut board, id, ann));
-    assert!(rt; trashes(&mut board, id, ann));
-    assert!(rt; listed(&board)? == 0);
-    Ok(())
-}
-
-#[test]
-fn the_first_free_job_of_the_list_is_found(rt: HostRuntime) -> Result<(), Fail> {
-    let alloc = rt.alloc();
-    let mut board = empty_board(alloc, &[])?;
-    let build = named(b"build")?;
-    assert!(rt; posted(&mut board, build, Priority::Normal, Val::Int(1)).is_some());
-    assert!(rt; posted(&mut board, build, Priority::High, Val::Int(2)).is_some());
-    assert!(rt; board.free_job(&[]) == Some(2));
-    assert!(rt; board.free_job(&[2]) == Some(1));
-    Ok(())
-}
-
-/// The first job of a board, which is the only one, has that id, and the number 7 as its details.
-fn assert_first<K: Desk>(rt: &impl Abort, board: &Board<K>, id: Uuid) {
-    assert!(rt; board.id_of(1) == Some(id));
-    assert!(rt; board.number_of(&id) == Some(1));
-    assert!(rt; matches!(board.details_of(1), Some(Val::Int(7))));
-    assert!(rt; board.count() == 1);
-}
-
-#[test]
-fn a_job_has_an_id_and_details(rt: HostRuntime) -> Result<(), Fail> {
-    let alloc = rt.alloc();
-    let mut board = empty_board(alloc, &[])?;
-    let build = named(b"build")?;
-    assert!(rt; posted(&mut board, build, Priority::Low, Val::Int(7)).is_some());
-    let id = id(alloc, 1, build)?;
-    assert_first(&rt, &board, id);
-    Ok(())
+) -> Result<(), Fail> {
+    let name = named(name)?;
+    call(
+        shared,
+        JobCall::Post {
+            name,
+            priority,
+            details,
+        },
+    )
 }

@@ -1,10 +1,10 @@
-use crate::boards::{empty_board, id, named};
-use std::alloc::Global;
+use crate::boards::{named, shared_board};
+use crate::calls::id;
 use std::test::Fail;
-use tf_board::BoardFault;
-use tf_desk::{Desk, MemoryDesk};
+use tf_board::{BoardFault, JobAction, JobCall};
+use tf_desk::Desk;
 use tf_report::Priority;
-use tf_shared_board::{BoardHalt, CallFault, JobCall, SharedBoard};
+use tf_shared_board::{BoardHalt, CallFault, SharedBoard};
 use tf_values::{Name, Val};
 use uuid::Uuid;
 
@@ -19,13 +19,11 @@ fn post(name: Name) -> JobCall {
 
 /// A claim of the job of that id.
 fn claim(id: Uuid, owner: Name) -> JobCall {
-    JobCall::Claim { id, owner }
-}
-
-/// A shared board without a job, over a desk of whose calls the stated ones fail.
-fn shared(alloc: Global, failing: &[u64]) -> Result<SharedBoard<MemoryDesk>, Fail> {
-    let board = empty_board(alloc, failing)?;
-    Ok(SharedBoard::make(alloc, board))
+    JobCall::Apply {
+        action: JobAction::Claim,
+        id,
+        owner,
+    }
 }
 
 /// What comes of a call.
@@ -61,7 +59,7 @@ fn is_halted<K: Desk>(shared: &mut SharedBoard<K>, number: u8, call: JobCall) ->
 #[test]
 fn a_call_that_is_refused_halts_nothing(rt: HostRuntime) -> Result<(), Fail> {
     let alloc = rt.alloc();
-    let mut shared = shared(alloc, &[])?;
+    let mut shared = shared_board(alloc, &[])?;
     let name = named(b"build")?;
     let id = id(alloc, 1, name)?;
     assert!(rt; goes(&mut shared, 3, post(name)));
@@ -76,7 +74,7 @@ fn a_call_that_is_refused_halts_nothing(rt: HostRuntime) -> Result<(), Fail> {
 fn a_disk_fault_halts_for_good(rt: HostRuntime) -> Result<(), Fail> {
     let alloc = rt.alloc();
     let name = named(b"build")?;
-    let mut shared = shared(alloc, &[16, 17, 18, 19])?;
+    let mut shared = shared_board(alloc, &[16, 17, 18, 19])?;
     assert!(rt; is_halted(&mut shared, 0, post(name)));
     assert!(rt; is_halted(&mut shared, 0, post(name)));
     Ok(())

@@ -15,9 +15,10 @@ use Rattle.tf_book.specs.declared.shelf.Detail.{Detail}
 
 -- ---- what a book is, and what its file holds
 
--- a book: its plan, its history with the newest entry first, what its file holds with the number of its plan's detail there, its journal with
--- its desk, whether it says no lines, why it was halted, if it was, the entry that couldn't be recorded last, if there was one, and the
--- length of the history from which on its session is to be suspended, if it has a limit
+-- a book: its plan, its history with the newest entry first, what its file holds with the number of its plan's detail
+-- there, its journal with its desk, whether it says no lines, why it was halted, if it was, the entry that couldn't be
+-- recorded last, if there was one, and the length of the history from which on its session is to be suspended, if it
+-- has a limit
 pub record BookValue (K : Type 0) : Type 0 where
   pub plan : PlanValue
   pub past : List Entry
@@ -68,7 +69,8 @@ RefusesBook fault file = RefusesMalformed book_title CannotFollow fault file
 abbrev pub listed_from : List Element → ℕ → List PlanValue → List Detail
 listed_from elements number [] = []
 listed_from elements number (plan ∷ plans) =
-    record { name = detail_name plan; state = flow_of (history number elements) } ∷ listed_from elements (number + 1) plans
+    record { name = detail_name plan; state = flow_of (history number elements) }
+    ∷ listed_from elements (number + 1) plans
 
 abbrev pub listed : List Element → List Detail
 listed elements = listed_from elements 0 (details elements)

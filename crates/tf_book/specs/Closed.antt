@@ -26,12 +26,13 @@ abbrev pub LeavesClosing : Contents → Option (List ℕ) → List ℕ → Pairs
 LeavesClosing contents shown closing image text =
     (recovered book_title image ≡ bodies (bodies_with contents [])) × ShowsPrefix shown closing (Some text)
 
--- a crash since the start left some of the entries with a prefix of their lines; or the whole history with all lines and a prefix of
--- the closing
+-- a crash since the start left some of the entries with a prefix of their lines; or the whole history with all lines
+-- and a prefix of the closing
 abbrev pub LeavesClosed : Contents → PlanValue → Bool → (before entries : List Entry) → Option (List ℕ) → List ℕ → Pairs
 LeavesClosed contents plan quiet before entries shown closing image text =
     LeavesEntries contents plan quiet before entries shown image text
-    ⊎ LeavesClosing (with_entries contents entries) (shown_with shown (said quiet (outline_of plan) before entries)) closing image text
+    ⊎ LeavesClosing (with_entries contents entries)
+    (shown_with shown (said quiet (outline_of plan) before entries)) closing image text
 
 module _ {K : Type 0} (state : K → DeskState) where
   -- from the start of a session to a closing: what was kept, and the closing
@@ -44,14 +45,18 @@ module _ {K : Type 0} (state : K → DeskState) where
     pub volatile : now.journal.volatile ≡ start.journal.volatile
     pub continues : Continues (state start.journal.desk) (state now.journal.desk)
     pub off_disk : start.journal.volatile ≡ true → StaysOffDisk (state start.journal.desk) (state now.journal.desk)
-    pub text : IsClosing (shown_with (state start.journal.desk).shown (said start.quiet (outline_of start.plan) start.past entries)) closing now.halt
+    pub text : IsClosing
+        (shown_with (state start.journal.desk).shown
+        (said start.quiet (outline_of start.plan) start.past entries)) closing now.halt
         (state now.journal.desk).shown
     pub crash : IsTrue (state start.journal.desk).tells → start.journal.volatile ≡ false
-        → Passes (LeavesClosed start.contents start.plan start.quiet start.past entries (state start.journal.desk).shown closing) (state start.journal.desk)
+        → Passes (LeavesClosed start.contents start.plan start.quiet start.past entries
+        (state start.journal.desk).shown closing) (state start.journal.desk)
         (state now.journal.desk)
     pub left_now : IsTrue (state start.journal.desk).tells → start.journal.volatile ≡ false
         → LeavesBodies book_title (state start.journal.desk) (bodies_with start.contents [])
         → LeavesBodies book_title (state now.journal.desk) (bodies_with start.contents entries)
     pub exact : IsTrue (state start.journal.desk).tells → start.journal.volatile ≡ false
         → IsExact (state start.journal.desk) start.contents → IsExact (state now.journal.desk) now.contents
-    pub cause : HasCause now.contents start.plan now.past (state start.journal.desk) (state now.journal.desk) now.failed now.halt
+    pub cause : HasCause now.contents start.plan now.past (state start.journal.desk)
+        (state now.journal.desk) now.failed now.halt

@@ -49,7 +49,8 @@ pub record HasDraftRoom (draft : Draft) : Type 0 where
   pub body : 131203 ≤ vec_capacity draft.body
   pub line : 1048576 ≤ vec_capacity draft.line
 
--- there is room for one more entry of a journal of that size, whatever it is: in the history, and for its body and its line
+-- there is room for one more entry of a journal of that size, whatever it is: in the history, and for its body and its
+-- line
 pub record HasWriteRoom (size : ℕ) (history : History) (holding : Holding) (draft : Draft) : Type 0 where
   pub few : length history.entries.items ≤ 67108864
   pub fewer : length history.entries.items ≤ size

@@ -37,7 +37,8 @@ abbrev pub halt_for_memory : Option Halt → Option Halt
 halt_for_memory None = Some halt.Memory
 halt_for_memory (Some cause) = Some cause
 
--- an entry was kept: the machine stands for the history with it, and its body, which a book can read again, is in memory behind the others
+-- an entry was kept: the machine stands for the history with it, and its body, which a book can read again, is in
+-- memory behind the others
 pub record KeepsEntry (entry : Entry) (machine next : MachineValue) (old new : History) : Type 0 where
   pub stands : (past : List Entry) → StandsFor machine past → StandsFor next (entry ∷ past)
   pub entries : past_shown new.entries.items ≡ entry ∷ past_shown old.entries.items

@@ -44,8 +44,8 @@ IsSaid before line after (Ok u) = after ≡ shown_with before line
 IsSaid before line after (Err halt.Out) = ShowsPrefix before line after
 IsSaid before line after (Err other) = after ≡ before
 
--- a fault of the disk or of the output comes only where its count rose, and Full only where the size and what is needed pass the limit; want of
--- memory never comes
+-- a fault of the disk or of the output comes only where its count rose, and Full only where the size and what is needed
+-- pass the limit; want of memory never comes
 abbrev pub IsCaused : DeskState → DeskState → (size n : ℕ) → Result (Unit {0}) Halt → Type 0
 IsCaused old new size n (Ok u) = Unit {0}
 IsCaused old new size n (Err halt.Disk) = Rises old.disk_faults new.disk_faults
@@ -57,20 +57,24 @@ IsCaused old new size n (Err halt.Memory) = ⊥
 abbrev pub FailsToSay : Halt → DeskState → DeskState → Type 0
 FailsToSay why old new = (why ≡ halt.Out) × Rises old.out_faults new.out_faults
 
--- a crash inside leaves the bodies from before and nothing more shown, or the new one too and a prefix of its line shown
+-- a crash inside leaves the bodies from before and nothing more shown, or the new one too and a prefix of its line
+-- shown
 abbrev pub LeavesLogged : Title → List (List ℕ) → List ℕ → List ℕ → Option (List ℕ) → Pairs
 LeavesLogged title held new line shown image text =
     ((recovered title image ≡ bodies held) × (shown ≡ Some text))
     ⊎ ((recovered title image ≡ bodies (held ++ new ∷ [])) × ShowsPrefix shown line (Some text))
 
 -- the file has the body, and is at rest; a file of just the bodies before has just it more
-pub record Logs {K : Type 0} (state : K → DeskState) (body : List ℕ) (old new : Held K) (held : List (List ℕ)) : Type 0 where
+pub record Logs {K : Type 0} (state : K → DeskState) (body : List ℕ) (old new : Held K)
+    (held : List (List ℕ)) : Type 0 where
   pub rest : IsAtRest state new (held ++ body ∷ [])
   pub exact : bytes_now (state old.desk) ≡ journal_bytes old.title held
       → bytes_now (state new.desk) ≡ journal_bytes old.title (held ++ body ∷ [])
 
--- a crash inside or after it leaves the bodies from before, with the new one or without, and shows the line only with the new one
-pub record LogsAtMost {K : Type 0} (state : K → DeskState) (body line : List ℕ) (old new : Held K) (held : List (List ℕ)) : Type 0 where
+-- a crash inside or after it leaves the bodies from before, with the new one or without, and shows the line only with
+-- the new one
+pub record LogsAtMost {K : Type 0} (state : K → DeskState) (body line : List ℕ) (old new : Held K)
+    (held : List (List ℕ)) : Type 0 where
   pub crash : Passes (LeavesLogged old.title held body line (state old.desk).shown) (state old.desk) (state new.desk)
   pub leaves : LeavesEither old.title (state new.desk) held (held ++ body ∷ [])
 
@@ -80,7 +84,8 @@ pub record StaysOffDisk (old new : DeskState) : Type 0 where
   pub disk_faults : new.disk_faults ≡ old.disk_faults
 
 -- a body was to be appended, and its line said after it; nothing else was done
-pub record Logged {K : Type 0} (state : K → DeskState) (body line : List ℕ) (old new : Held K) (result : Result (Unit {0}) Halt) : Type 0 where
+pub record Logged {K : Type 0} (state : K → DeskState) (body line : List ℕ) (old new : Held K)
+    (result : Result (Unit {0}) Halt) : Type 0 where
   pub journal : new ≡ journal_after old new.desk (length body) result
   pub text : IsSaid (state old.desk).shown line (state new.desk).shown result
   pub cause : IsCaused (state old.desk) (state new.desk) old.size (length body) result
@@ -96,22 +101,28 @@ pub record Logged {K : Type 0} (state : K → DeskState) (body line : List ℕ) 
 -- what is said of the entries recorded after a history, the oldest first; entries are numbered from 1
 abbrev pub said : Bool → Outline → List Entry → List Entry → List ℕ
 said quiet plan before [] = []
-said quiet plan before (e ∷ entries) = said quiet plan before entries ++ said_of quiet (line plan (length (entries ++ before) + 1) e)
+said quiet plan before (e ∷ entries) =
+    said quiet plan before entries ++ said_of quiet (line plan (length (entries ++ before) + 1) e)
 
 -- the line of the newest entry couldn't be said to its end
 abbrev pub IsCut : Bool → Outline → List Entry → Option (List ℕ) → List Entry → Option (List ℕ) → Type 0
 IsCut quiet plan before shown [] now = ⊥
 IsCut quiet plan before shown (e ∷ entries) now =
-    ShowsPrefix (shown_with shown (said quiet plan before entries)) (said_of quiet (line plan (length (entries ++ before) + 1) e)) now
+    ShowsPrefix (shown_with shown (said quiet plan before entries))
+    (said_of quiet (line plan (length (entries ++ before) + 1) e)) now
 
--- the shown text: what was shown at the start and what is said of the entries; cut in the newest line where the output failed
-abbrev pub IsSpoken : Bool → Outline → List Entry → Option (List ℕ) → List Entry → Option Halt → Option (List ℕ) → Type 0
+-- the shown text: what was shown at the start and what is said of the entries; cut in the newest line where the output
+-- failed
+abbrev pub IsSpoken : Bool → Outline → List Entry → Option (List ℕ) → List Entry → Option Halt → Option (List ℕ)
+    → Type 0
 IsSpoken quiet plan before shown entries (Some halt.Out) now = IsCut quiet plan before shown entries now
 IsSpoken quiet plan before shown entries other now = now ≡ shown_with shown (said quiet plan before entries)
 
--- a crash left this image and this text: recovery gives what the file held at the start with some of the entries after it, the
--- oldest, the pending one the last; and what is shown is the text at the start and a prefix of what is said of these
-pub record LeavesEntries (contents : Contents) (plan : PlanValue) (quiet : Bool) (before entries : List Entry) (shown : Option (List ℕ)) (image text : List ℕ) : Type 0 where
+-- a crash left this image and this text: recovery gives what the file held at the start with some of the entries after
+-- it, the oldest, the pending one the last; and what is shown is the text at the start and a prefix of what is said of
+-- these
+pub record LeavesEntries (contents : Contents) (plan : PlanValue) (quiet : Bool) (before entries : List Entry)
+    (shown : Option (List ℕ)) (image text : List ℕ) : Type 0 where
   pub lost : List Entry
   pub kept : List Entry
   pub splits : entries ≡ lost ++ kept
@@ -121,20 +132,23 @@ pub record LeavesEntries (contents : Contents) (plan : PlanValue) (quiet : Bool)
 -- nothing, or one entry of this kind that may follow the history and has a form that a book can read again
 pub data MayFollow (is_so : Entry → Type 0) (plan : PlanValue) (past : List Entry) : List Entry → Type 0 where
   nothing_more : MayFollow is_so plan past []
-  one_more : (e : Entry) → Step (outline_of plan) (snapshot (outline_of plan) past) e → IsForm e → is_so e → MayFollow is_so plan past (e ∷ [])
+  one_more : (e : Entry) → Step (outline_of plan) (snapshot (outline_of plan) past) e → IsForm e → is_so e
+      → MayFollow is_so plan past (e ∷ [])
 
 -- it is the entry that couldn't be recorded
 abbrev pub HasFailed : Option Entry → Entry → Type 0
 HasFailed failed e = failed ≡ Some e
 
--- at most one entry is pending behind the history, the one that couldn't be recorded, and only after a fault of the disk in its append
+-- at most one entry is pending behind the history, the one that couldn't be recorded, and only after a fault of the
+-- disk in its append
 abbrev pub IsPending : PlanValue → List Entry → Option Halt → Option Entry → List Entry → Type 0
 IsPending plan past (Some halt.Disk) failed pending = MayFollow (HasFailed failed) plan past pending
 IsPending plan past other failed pending = pending ≡ []
 
--- since the start a crash left no more than that; and where one at the start left just the bodies that the file held then, one now leaves
--- those with all entries behind them, or the pending one too
-pub record OutlastsCrash (contents : Contents) (plan : PlanValue) (quiet : Bool) (before entries : List Entry) (halted : Option Halt) (failed : Option Entry) (old now : DeskState) : Type 0 where
+-- since the start a crash left no more than that; and where one at the start left just the bodies that the file held
+-- then, one now leaves those with all entries behind them, or the pending one too
+pub record OutlastsCrash (contents : Contents) (plan : PlanValue) (quiet : Bool) (before entries : List Entry)
+    (halted : Option Halt) (failed : Option Entry) (old now : DeskState) : Type 0 where
   pub pending : List Entry
   pub few : IsPending plan (entries ++ before) halted failed pending
   pub passes : Passes (LeavesEntries contents plan quiet before (pending ++ entries) old.shown) old now
@@ -145,8 +159,10 @@ pub record OutlastsCrash (contents : Contents) (plan : PlanValue) (quiet : Bool)
 abbrev pub IsExact : DeskState → Contents → Type 0
 IsExact now contents = bytes_now now ≡ journal_bytes book_title (bodies_with contents [])
 
--- the record of an entry of this kind that may follow, with a form that a book can read again, would have made the journal longer than its limit
-pub record IsFullFor (is_so : Entry → Type 0) (contents : Contents) (plan : PlanValue) (past : List Entry) (size need : ℕ) : Type 0 where
+-- the record of an entry of this kind that may follow, with a form that a book can read again, would have made the
+-- journal longer than its limit
+pub record IsFullFor (is_so : Entry → Type 0) (contents : Contents) (plan : PlanValue) (past : List Entry)
+    (size need : ℕ) : Type 0 where
   pub entry : Entry
   pub so : is_so entry
   pub step : Step (outline_of plan) (snapshot (outline_of plan) past) entry
@@ -155,17 +171,19 @@ pub record IsFullFor (is_so : Entry → Type 0) (contents : Contents) (plan : Pl
   pub need_is : need ≡ 5 + length (entry_body contents.number entry)
   pub over : SIZE_LIMIT < size + need
 
--- why it was halted: the disk or the output failed, so that its count rose, or the journal is full for the entry that couldn't be recorded;
--- want of memory has no cause that is told
+-- why it was halted: the disk or the output failed, so that its count rose, or the journal is full for the entry that
+-- couldn't be recorded; want of memory has no cause that is told
 abbrev pub HasCause : Contents → PlanValue → List Entry → DeskState → DeskState → Option Entry → Option Halt → Type 0
 HasCause contents plan past old now failed None = Unit {0}
 HasCause contents plan past old now failed (Some halt.Disk) = Rises old.disk_faults now.disk_faults
 HasCause contents plan past old now failed (Some halt.Out) = Rises old.out_faults now.out_faults
-HasCause contents plan past old now failed (Some (halt.Full size need)) = IsFullFor (HasFailed failed) contents plan past size need
+HasCause contents plan past old now failed (Some (halt.Full size need)) =
+    IsFullFor (HasFailed failed) contents plan past size need
 HasCause contents plan past old now failed (Some halt.Memory) = Unit {0}
 
 module _ {K : Type 0} (state : K → DeskState) where
-  -- from the start until now: the entries recorded since, which the file holds behind what it held; the plan and the kind of book stay; and the facts
+  -- from the start until now: the entries recorded since, which the file holds behind what it held; the plan and the
+  -- kind of book stay; and the facts
   pub record SessionInvariant (start now : BookValue K) : Type 0 where
     pub entries : List Entry
     pub recorded : now.past ≡ entries ++ start.past
@@ -175,12 +193,15 @@ module _ {K : Type 0} (state : K → DeskState) where
     pub volatile : now.journal.volatile ≡ start.journal.volatile
     pub continues : Continues (state start.journal.desk) (state now.journal.desk)
     pub off_disk : start.journal.volatile ≡ true → StaysOffDisk (state start.journal.desk) (state now.journal.desk)
-    pub text : IsSpoken start.quiet (outline_of start.plan) start.past (state start.journal.desk).shown entries now.halt (state now.journal.desk).shown
+    pub text : IsSpoken start.quiet (outline_of start.plan) start.past (state start.journal.desk).shown entries now.halt
+        (state now.journal.desk).shown
     pub crash : IsTrue (state start.journal.desk).tells → start.journal.volatile ≡ false
-        → OutlastsCrash start.contents start.plan start.quiet start.past entries now.halt now.failed (state start.journal.desk) (state now.journal.desk)
+        → OutlastsCrash start.contents start.plan start.quiet start.past entries now.halt now.failed
+        (state start.journal.desk) (state now.journal.desk)
     pub exact : IsTrue (state start.journal.desk).tells → start.journal.volatile ≡ false → now.journal.halted ≡ false
         → IsExact (state start.journal.desk) start.contents → IsExact (state now.journal.desk) now.contents
-    pub cause : HasCause now.contents start.plan now.past (state start.journal.desk) (state now.journal.desk) now.failed now.halt
+    pub cause : HasCause now.contents start.plan now.past (state start.journal.desk)
+        (state now.journal.desk) now.failed now.halt
 
   -- a call that records: the plan and the limit stay, nobody was asked, and for every start what was kept stays kept
   pub record Proceeds (old new : BookValue K) : Type 0 where
@@ -195,7 +216,8 @@ module _ {K : Type 0} (state : K → DeskState) where
     pub limit : new.limit ≡ old.limit
     pub asks : (state old.journal.desk).asks ≤ (state new.journal.desk).asks
     pub turns : (state old.journal.desk).turns ≤ (state new.journal.desk).turns
-    pub turned : old.halt ≡ None → flow_state old ≡ flow.Running → Rises (state old.journal.desk).turns (state new.journal.desk).turns
+    pub turned : old.halt ≡ None → flow_state old ≡ flow.Running
+        → Rises (state old.journal.desk).turns (state new.journal.desk).turns
     pub unasked : flow_state old ≢ flow.Running → IsUnasked (state old.journal.desk) (state new.journal.desk)
     pub keeps : (start : BookValue K) → SessionInvariant start old → SessionInvariant start new
 

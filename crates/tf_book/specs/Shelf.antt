@@ -34,7 +34,8 @@ is_volatile (place.Unborn desk) = false
 -- ---- what is known of it
 
 -- the journal has just these elements, and none where it keeps nothing
-pub record HoldsElements {K : Type 0} (state : K → DeskState) (journal : Held K) (elements : List Element) : Type 0 where
+pub record HoldsElements {K : Type 0} (state : K → DeskState) (journal : Held K)
+    (elements : List Element) : Type 0 where
   pub title : journal.title ≡ book_title
   pub sound : journal.halted ≡ false
   pub size : journal.size ≡ book_size elements
@@ -45,7 +46,8 @@ pub record HoldsElements {K : Type 0} (state : K → DeskState) (journal : Held 
 -- the elements stand in a journal; or there are none, and the file may be made a journal
 abbrev pub IsPlaced : {K : Type 0} → (K → DeskState) → Place K → List Element → Type 0
 IsPlaced state (place.Kept journal) elements = HoldsElements state journal elements
-IsPlaced state (place.Unborn desk) elements = (elements ≡ []) × (IsTrue (state desk).tells → is_unborn book_title (bytes_now (state desk)) ≡ true)
+IsPlaced state (place.Unborn desk) elements =
+    (elements ≡ []) × (IsTrue (state desk).tells → is_unborn book_title (bytes_now (state desk)) ≡ true)
 
 -- the desk tells its content, and the elements are kept in its file
 abbrev pub IsTold : {K : Type 0} → (K → DeskState) → Place K → Type 0
@@ -70,9 +72,11 @@ desk_after_load (Err back) = back.0
 
 -- ---- what becomes of it when a detail is opened
 
--- the book is the detail of that number; where the desk tells its content, the book's file has just the bodies of the shelf's elements, and the book has
--- the detail's history; it is kept in its file, isn't halted, says its lines and has no limit
-pub record IsOpened {K : Type 0} (state : K → DeskState) (shelf : ShelfValue K) (number : ℕ) (book : BookValue K) : Type 0 where
+-- the book is the detail of that number; where the desk tells its content, the book's file has just the bodies of the
+-- shelf's elements, and the book has the detail's history; it is kept in its file, isn't halted, says its lines and has
+-- no limit
+pub record IsOpened {K : Type 0} (state : K → DeskState) (shelf : ShelfValue K) (number : ℕ)
+    (book : BookValue K) : Type 0 where
   pub number_is : book.contents.number ≡ number
   pub bodies : IsTrue (state (desk_of shelf)).tells → bodies_of book.contents.elements ≡ bodies_of shelf.elements
   pub past : IsTrue (state (desk_of shelf)).tells → book.past ≡ history number shelf.elements

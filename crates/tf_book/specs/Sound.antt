@@ -9,9 +9,11 @@ use Rattle.tf_book.specs.Histories.{framed_bodies}
 use Rattle.tf_book.specs.Book.{BookValue, bodies_with, size_of}
 use Rattle.tf_book.specs.declared.faults.Halt.TheVariants as halt
 
--- the machine stands for the history, whose bodies are in memory; the contents are a legal book, in which the detail has the plan and the history; unless the book was halted by the disk, no append found a disk fault, the journal has the contents, and where the desk tells its content
--- the file is as the last call left it
-pub record IsSoundBook {K : Type 0} (state : K → DeskState) (machine : MachineValue) (kept : List ℕ) (b : BookValue K) : Type 0 where
+-- the machine stands for the history, whose bodies are in memory; the contents are a legal book, in which the detail
+-- has the plan and the history; unless the book was halted by the disk, no append found a disk fault, the journal has
+-- the contents, and where the desk tells its content the file is as the last call left it
+pub record IsSoundBook {K : Type 0} (state : K → DeskState) (machine : MachineValue) (kept : List ℕ)
+    (b : BookValue K) : Type 0 where
   pub stands : StandsFor machine b.past
   pub plan : machine.plan ≡ b.plan
   pub kept_is : kept ≡ framed_bodies b.past

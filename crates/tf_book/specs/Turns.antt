@@ -67,7 +67,8 @@ pub record IsEntering (hand : ℕ) (past after : List Entry) : Type 0 where
 
 -- a session was entered: the flow hadn't ended, and all of it was recorded; or the flow had ended, and nothing was
 abbrev pub IsEntered : ℕ → List Entry → List Entry → Entered → Type 0
-IsEntered hand past after entered.Running = (has_ended (flow_of past) ≡ false) × (after ≡ reverse (entering_by hand (flow_of past)) ++ past)
+IsEntered hand past after entered.Running =
+    (has_ended (flow_of past) ≡ false) × (after ≡ reverse (entering_by hand (flow_of past)) ++ past)
 IsEntered hand past after (entered.Ended state) = (flow_of past ≡ state) × (has_ended state ≡ true) × (after ≡ past)
 
 -- ---- turns
@@ -76,24 +77,28 @@ IsEntered hand past after (entered.Ended state) = (flow_of past ≡ state) × (h
 abbrev pub AreForced : Outline → ℕ → Bool → Option ℕ → List Entry → List Entry → Type 0
 AreForced plan hand asked limit [] past = Unit {0}
 AreForced plan hand asked limit (e ∷ entries) past =
-    (e.hand ≡ hand) × (forced plan (snapshot plan (entries ++ past)) ≡ Some e.what) × (is_to_stop asked limit (length (entries ++ past)) ≡ false)
+    (e.hand ≡ hand) × (forced plan (snapshot plan (entries ++ past)) ≡ Some e.what)
+    × (is_to_stop asked limit (length (entries ++ past)) ≡ false)
     × AreForced plan hand asked limit entries past
 
 -- entries were recorded that were forced, one after another, while the session wasn't to stop
-pub record IsForcedOn (plan : Outline) (hand : ℕ) (asked : Bool) (limit : Option ℕ) (past after : List Entry) : Type 0 where
+pub record IsForcedOn (plan : Outline) (hand : ℕ) (asked : Bool) (limit : Option ℕ)
+    (past after : List Entry) : Type 0 where
   pub entries : List Entry
   pub are : AreForced plan hand asked limit entries past
   pub is : after ≡ entries ++ past
 
 -- they were recorded until no more was forced; the flow is RUNNING, and the session isn't to stop
-pub record RanOn (plan : Outline) (hand : ℕ) (asked : Bool) (limit : Option ℕ) (past between : List Entry) : Type 0 where
+pub record RanOn (plan : Outline) (hand : ℕ) (asked : Bool) (limit : Option ℕ)
+    (past between : List Entry) : Type 0 where
   pub on : IsForcedOn plan hand asked limit past between
   pub running : flow_of between ≡ flow.Running
   pub unforced : forced plan (snapshot plan between) ≡ None
   pub unstopped : is_to_stop asked limit (length between) ≡ false
 
 -- they were recorded until the session was to stop; the flow is RUNNING
-pub record RanUntilStop (plan : Outline) (hand : ℕ) (asked : Bool) (limit : Option ℕ) (past between : List Entry) : Type 0 where
+pub record RanUntilStop (plan : Outline) (hand : ℕ) (asked : Bool) (limit : Option ℕ)
+    (past between : List Entry) : Type 0 where
   pub on : IsForcedOn plan hand asked limit past between
   pub running : flow_of between ≡ flow.Running
   pub stops : is_to_stop asked limit (length between) ≡ true
@@ -116,7 +121,8 @@ IsStartOf plan hand past after start (turn.Start order) = TakesUp plan hand past
 IsStartOf plan hand past after start other = ⊥
 
 -- forced entries were recorded until no more was forced, and then the first candidate was taken up, with this order
-pub record IsStarted (plan : Outline) (hand : ℕ) (asked : Bool) (limit : Option ℕ) (past after : List Entry) (order : Order) : Type 0 where
+pub record IsStarted (plan : Outline) (hand : ℕ) (asked : Bool) (limit : Option ℕ) (past after : List Entry)
+    (order : Order) : Type 0 where
   pub between : List Entry
   pub ran : RanOn plan hand asked limit past between
   pub start : Start
@@ -135,7 +141,8 @@ pub record IsSuspensionOf (plan : Outline) (hand : ℕ) (past after : List Entry
   pub endless : end_of plan (snapshot plan past) ≡ None
   pub is : after ≡ by_hand hand (what.Flow flow.Suspended) ∷ past
 
--- what a hand answers that finds nothing to take up: it waits while a task is in flight; else the run ends or is suspended
+-- what a hand answers that finds nothing to take up: it waits while a task is in flight; else the run ends or is
+-- suspended
 abbrev pub HasRested : Outline → ℕ → List Entry → List Entry → Turn → Type 0
 HasRested plan hand past after (turn.Start order) = ⊥
 HasRested plan hand past after turn.Idle = (is_still plan (snapshot plan past) ≡ false) × (after ≡ past)
@@ -156,7 +163,8 @@ end_now plan s = if is_still plan s then end_of plan s else None
 abbrev pub suspending_after : ℕ → List Entry → List Entry
 suspending_after hand past = by_hand hand (what.Flow flow.Suspending) ∷ past
 
--- what comes in RUNNING where the session is to stop: at an end that may be recorded, the end; else SUSPENDING, and what comes in it
+-- what comes in RUNNING where the session is to stop: at an end that may be recorded, the end; else SUSPENDING, and
+-- what comes in it
 abbrev pub HasStopped : Outline → ℕ → List Entry → List Entry → Turn → Type 0
 HasStopped plan hand past after answer =
     ((is_some (end_now plan (snapshot plan past)) ≡ true) × HasRested plan hand past after answer)
@@ -166,30 +174,36 @@ HasStopped plan hand past after answer =
 abbrev pub IsStoppedOr : Outline → ℕ → List Entry → List Entry → Type 0
 IsStoppedOr plan hand past after =
     ((is_some (end_now plan (snapshot plan past)) ≡ true) × IsClosedOr plan hand past after)
-    ⊎ ((end_now plan (snapshot plan past) ≡ None) × (IsClosedOr plan hand (suspending_after hand past) after ⊎ (after ≡ past)))
+    ⊎ ((end_now plan (snapshot plan past) ≡ None)
+    × (IsClosedOr plan hand (suspending_after hand past) after ⊎ (after ≡ past)))
 
 -- a session that was to stop where no end may be recorded: SUSPENDING was recorded
-pub record IsToSuspend (plan : Outline) (hand : ℕ) (asked : Bool) (limit : Option ℕ) (past between : List Entry) : Type 0 where
+pub record IsToSuspend (plan : Outline) (hand : ℕ) (asked : Bool) (limit : Option ℕ)
+    (past between : List Entry) : Type 0 where
   pub before : List Entry
   pub ran : RanUntilStop plan hand asked limit past before
   pub endless : end_now plan (snapshot plan before) ≡ None
   pub is : between ≡ suspending_after hand before
 
 -- in RUNNING nothing is left to take up
-pub record HasNothing (plan : Outline) (hand : ℕ) (asked : Bool) (limit : Option ℕ) (past between : List Entry) : Type 0 where
+pub record HasNothing (plan : Outline) (hand : ℕ) (asked : Bool) (limit : Option ℕ)
+    (past between : List Entry) : Type 0 where
   pub ran : RanOn plan hand asked limit past between
   pub unchosen : choice plan (snapshot plan between) ≡ None
 
--- so it rests: in RUNNING after that; or where the session is to stop, at an end that may be recorded, or else after SUSPENDING; in
--- SUSPENDING at once
-pub data HandRests (plan : Outline) (hand : ℕ) (asked : Bool) (limit : Option ℕ) (past between : List Entry) : Type 0 where
+-- so it rests: in RUNNING after that; or where the session is to stop, at an end that may be recorded, or else after
+-- SUSPENDING; in SUSPENDING at once
+pub data HandRests (plan : Outline) (hand : ℕ) (asked : Bool) (limit : Option ℕ)
+    (past between : List Entry) : Type 0 where
   nothing_to_take : HasNothing plan hand asked limit past between → HandRests plan hand asked limit past between
-  at_end : RanUntilStop plan hand asked limit past between → is_some (end_now plan (snapshot plan between)) ≡ true → HandRests plan hand asked limit past between
+  at_end : RanUntilStop plan hand asked limit past between → is_some (end_now plan (snapshot plan between)) ≡ true
+      → HandRests plan hand asked limit past between
   to_suspend : IsToSuspend plan hand asked limit past between → HandRests plan hand asked limit past between
   suspending : flow_of past ≡ flow.Suspending → between ≡ past → HandRests plan hand asked limit past between
 
 -- what it answers then
-pub record HandRestsAs (plan : Outline) (hand : ℕ) (asked : Bool) (limit : Option ℕ) (past after : List Entry) (answer : Turn) : Type 0 where
+pub record HandRestsAs (plan : Outline) (hand : ℕ) (asked : Bool) (limit : Option ℕ) (past after : List Entry)
+    (answer : Turn) : Type 0 where
   pub between : List Entry
   pub rests : HandRests plan hand asked limit past between
   pub rested : HasRested plan hand between after answer
@@ -200,27 +214,35 @@ WasOver past after state = (flow_of past ≡ state) × (is_last state ≡ true) 
 
 -- what the next turn of a hand recorded and answered, where a stop was asked for or wasn't
 abbrev pub IsTurn : Outline → ℕ → Bool → Option ℕ → List Entry → List Entry → Turn → Type 0
-IsTurn plan hand asked limit past after (turn.Start order) = IsStarted plan hand asked limit past after order × IsWhole order
+IsTurn plan hand asked limit past after (turn.Start order) =
+    IsStarted plan hand asked limit past after order × IsWhole order
 IsTurn plan hand asked limit past after turn.Idle = HandRestsAs plan hand asked limit past after turn.Idle
-IsTurn plan hand asked limit past after (turn.Ended state) = HandRestsAs plan hand asked limit past after (turn.Ended state) ⊎ WasOver past after state
-IsTurn plan hand asked limit past after turn.Suspended = HandRestsAs plan hand asked limit past after turn.Suspended ⊎ WasOver past after flow.Suspended
+IsTurn plan hand asked limit past after (turn.Ended state) =
+    HandRestsAs plan hand asked limit past after (turn.Ended state) ⊎ WasOver past after state
+IsTurn plan hand asked limit past after turn.Suspended =
+    HandRestsAs plan hand asked limit past after turn.Suspended ⊎ WasOver past after flow.Suspended
 
--- what a turn recorded that was halted: forced entries; and then perhaps a start, whose order nobody gets, SUSPENDING, or a last
--- entry of the flow
-pub data IsHaltedTurn (plan : Outline) (hand : ℕ) (asked : Bool) (limit : Option ℕ) (past after : List Entry) : Type 0 where
+-- what a turn recorded that was halted: forced entries; and then perhaps a start, whose order nobody gets, SUSPENDING,
+-- or a last entry of the flow
+pub data IsHaltedTurn (plan : Outline) (hand : ℕ) (asked : Bool) (limit : Option ℕ)
+    (past after : List Entry) : Type 0 where
   forcing : IsForcedOn plan hand asked limit past after → IsHaltedTurn plan hand asked limit past after
-  starting : (between : List Entry) (start : Start) → RanOn plan hand asked limit past between → IsStartedSo plan hand between after start
+  starting : (between : List Entry) (start : Start) → RanOn plan hand asked limit past between
+      → IsStartedSo plan hand between after start
       → IsHaltedTurn plan hand asked limit past after
-  resting : (between : List Entry) → HandRests plan hand asked limit past between → IsClosedOr plan hand between after → IsHaltedTurn plan hand asked limit past after
+  resting : (between : List Entry) → HandRests plan hand asked limit past between → IsClosedOr plan hand between after
+      → IsHaltedTurn plan hand asked limit past after
 
 -- a turn, where the count of stops tells whether one was asked for in it
-pub record IsTurnAsked (plan : Outline) (hand : ℕ) (limit : Option ℕ) (asks_then asks_now : ℕ) (past after : List Entry) (answer : Turn) : Type 0 where
+pub record IsTurnAsked (plan : Outline) (hand : ℕ) (limit : Option ℕ) (asks_then asks_now : ℕ) (past after : List Entry)
+    (answer : Turn) : Type 0 where
   pub stop : Bool
   pub answered : IsAnswered stop asks_then asks_now
   pub is : IsTurn plan hand stop limit past after answer
 
 -- the same of a turn that was halted
-pub record IsHaltedTurnAsked (plan : Outline) (hand : ℕ) (limit : Option ℕ) (asks_then asks_now : ℕ) (past after : List Entry) : Type 0 where
+pub record IsHaltedTurnAsked (plan : Outline) (hand : ℕ) (limit : Option ℕ) (asks_then asks_now : ℕ)
+    (past after : List Entry) : Type 0 where
   pub stop : Bool
   pub answered : IsAnswered stop asks_then asks_now
   pub is : IsHaltedTurn plan hand stop limit past after
@@ -279,7 +301,8 @@ module _ {K : Type 0} where
 
   -- it was the end of the hand's task, with this outcome, after the history before the call
   abbrev pub HasTriedToEnd : ℕ → Outcome → BookValue K → BookValue K → Type 0
-  HasTriedToEnd hand came old new = IsTried (λ e. IsFinished (outline old) hand came old.past (e ∷ new.past)) new.halt new.failed
+  HasTriedToEnd hand came old new =
+      IsTried (λ e. IsFinished (outline old) hand came old.past (e ∷ new.past)) new.halt new.failed
 
   -- it was to put the flow back
   abbrev pub HasTriedToReset : BookValue K → Type 0
@@ -294,7 +317,8 @@ may_reset plan s = flow_is_reverted s.flow && all_below (count plan) (is_settled
 -- each of these entries after a history is what a reset records at its place, by hand 0
 abbrev pub AreReset : Outline → List Entry → List Entry → Type 0
 AreReset plan [] past = Unit {0}
-AreReset plan (e ∷ entries) past = (e.hand ≡ 0) × (reset plan (snapshot plan (entries ++ past)) ≡ Some e.what) × AreReset plan entries past
+AreReset plan (e ∷ entries) past =
+    (e.hand ≡ 0) × (reset plan (snapshot plan (entries ++ past)) ≡ Some e.what) × AreReset plan entries past
 
 -- such entries were recorded, one after another
 pub record IsPutBackOn (plan : Outline) (past after : List Entry) : Type 0 where

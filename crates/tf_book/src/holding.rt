@@ -21,7 +21,8 @@ impl Holding {
     /// Notes a detail of this plan behind the elements.
     pub fn begin(&mut self, plan: &Plan)
         requires room { vec_len self.old.marks < vec_capacity self.old.marks }
-        ensures held { elements_shown self.new.marks.items ≡ with_detail (elements_shown self.old.marks.items) plan.now }
+        ensures held { elements_shown self.new.marks.items
+            ≡ with_detail (elements_shown self.old.marks.items) plan.now }
         ensures number { self.new.number ≡ self.old.number }
         ensures all_room { HasHoldingRoom self.old → HasHoldingRoom self.new }
     {

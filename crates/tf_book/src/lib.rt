@@ -3,19 +3,19 @@
 #![tactic(auto)]
 
 mod book;
+mod buffers;
 mod faults;
 mod history;
 mod holding;
 mod log;
 mod putting_back;
-mod room;
 mod shelf;
 mod showing;
 mod turn;
 mod writing;
 
 pub use book::Book;
+pub use buffers::Buffers;
 pub use faults::{BookFault, Halt, ResetFault};
-pub use room::Room;
 pub use shelf::{Detail, Shelf};
 pub use turn::{Entered, Turn};

@@ -10,8 +10,8 @@ mod loading;
 mod opening;
 mod starting;
 
+use crate::buffers::Buffers;
 use crate::history::History;
-use crate::room::Room;
 use std::alloc::{AllocError, Global};
 use std::marker::Model;
 use tf_desk::Desk;
@@ -95,20 +95,20 @@ impl<K: Desk> Shelf<K> {
         ensures desk { IfOk result (λ shelf. desk_of shelf ≡ desk) }
         ensures back { IfErr result (λ back. back.0 ≡ desk) }
     {
-        match Room::make(alloc) {
-            Ok(room) => Shelf::volatile_in(alloc, room, desk),
+        match Buffers::make(alloc) {
+            Ok(buffers) => Shelf::volatile_in(alloc, buffers, desk),
             Err(_) => Err((desk, Memory)),
         }
     }
 
-    /// The same in a room that was taken before.
-    pub fn volatile_in(alloc: Global, room: Room, desk: K) -> Result<Shelf<K>, (K, Memory)>
+    /// The same in buffers that were taken before.
+    pub fn volatile_in(alloc: Global, buffers: Buffers, desk: K) -> Result<Shelf<K>, (K, Memory)>
         ensures none { IfOk result (λ shelf. shelf.elements ≡ []) }
         ensures volatile { IfOk result (λ shelf. is_volatile shelf.place ≡ true) }
         ensures desk { IfOk result (λ shelf. desk_of shelf ≡ desk) }
         ensures back { IfErr result (λ back. back.0 ≡ desk) }
     {
-        let Ok(read) = Gathering::begin(alloc, 0, room.into_history()) else {
+        let Ok(read) = Gathering::begin(alloc, 0, buffers.into_history()) else {
             return Err((desk, Memory));
         };
         match Journal::volatile(alloc, desk) {

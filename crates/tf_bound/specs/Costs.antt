@@ -61,4 +61,5 @@ where_passes test number = if test then number else 0
 
 -- the sum of the lives of the other atoms that the flow of retry controller r holds
 abbrev pub lives_beside : PlanValue → ℕ → ℕ
-lives_beside plan r = sum_below (count (outline_of plan)) (λ a. where_passes (is_of_its_flow (outline_of plan) r a) (most plan a))
+lives_beside plan r =
+    sum_below (count (outline_of plan)) (λ a. where_passes (is_of_its_flow (outline_of plan) r a) (most plan a))

@@ -26,7 +26,8 @@ pub record MayTryAgain (plan : Outline) (s : Snapshot) (r : ℕ) : Type 0 where
 pub record IsCounted (plan : Outline) (s : Snapshot) : Type 0 where
   pub success : (r : ℕ) → is_success (s.state r) ≡ true → 1 ≤ s.attempts r
   pub retrying : (r : ℕ) → is_retrying (s.state r) ≡ true → HasTriesLeft plan s r
-  pub again : (r : ℕ) → is_retry plan r ≡ true → is_marked_again (own_flow plan r) (s.mark r) ≡ true → MayTryAgain plan s r
+  pub again : (r : ℕ) → is_retry plan r ≡ true → is_marked_again (own_flow plan r) (s.mark r) ≡ true
+      → MayTryAgain plan s r
 
 -- a mark comes from a resolve of a flow that holds the atom, and what is in flight is an atom of the plan
 pub record IsMarkedWithin (plan : Outline) (s : Snapshot) : Type 0 where

@@ -17,8 +17,8 @@ use Rattle.tf_accept.specs.Accepted.{GivesPlan, GivesNone}
 use Rattle.tf_commands.specs.Asking.{file_asked_for}
 use Rattle.tf_commands.specs.Messages.{Judges, unjudged, judged, Audits, unfinished_log, unread_log, long_log, audited, log_asked_for, verdict_status, RefusesLog, IsLogRefused}
 use Rattle.tf_words.specs.Words.{command_of}
-use Rattle.tf_commands.specs.Course as course
-use Rattle.tf_commands.specs.Course.{BytesRead, FileRead, IsRefused, passes_limit, gives_none, IsDoneComplete}
+use Rattle.tf_commands.specs.Behaviour as behaviour
+use Rattle.tf_commands.specs.Behaviour.{BytesRead, FileRead, IsRefused, passes_limit, gives_none, IsDoneComplete}
 use Rattle.tf_commands.specs.Books.{HasSaid}
 use Rattle.tf_accept.specs.declared.accepting.Refusal.{Refusal}
 use Rattle.tf_commands.specs.declared.reading.Source.{Source}
@@ -103,15 +103,15 @@ module _ (files : Contents) (source : Source) (log : List ℕ) (before after : O
   refused_so bytes why message given none closes = ⊎_elim (λ is. file_refused is bytes why given none) (λ is. audit_done (inr (inr (inl is)))) (closes_status before after message 4 status closes)
 
   audit_bytes : (untouched : Type 0) (bytes : List ℕ) → GivesBytes files source.file bytes → BytesRead source bytes untouched (Audits files log before after) before after status → AuditStatus files source log status
-  audit_bytes untouched bytes given (course.exhausted still is same) = out_so is
-  audit_bytes untouched bytes given (course.refused still why none closes) = refused_so bytes why _ given none closes
-  audit_bytes untouched bytes given (course.done plan gives did) = audits_status bytes plan given gives did
+  audit_bytes untouched bytes given (behaviour.exhausted still is same) = out_so is
+  audit_bytes untouched bytes given (behaviour.refused still why none closes) = refused_so bytes why _ given none closes
+  audit_bytes untouched bytes given (behaviour.done plan gives did) = audits_status bytes plan given gives did
 
   pub audit_status : (untouched : Type 0) → FileRead files source untouched (Audits files log before after) before after status → AuditStatus files source log status
-  audit_status untouched (course.unfinished still is same) = out_so is
-  audit_status untouched (course.unread still closes) = unread_so _ closes
-  audit_status untouched (course.too_long still passes closes) = ⊎_elim (λ is. file_long is passes) (λ is. audit_done (inr (inr (inl is)))) (closes_status before after _ 4 status closes)
-  audit_status untouched (course.read bytes given short came) = audit_bytes untouched bytes given came
+  audit_status untouched (behaviour.unfinished still is same) = out_so is
+  audit_status untouched (behaviour.unread still closes) = unread_so _ closes
+  audit_status untouched (behaviour.too_long still passes closes) = ⊎_elim (λ is. file_long is passes) (λ is. audit_done (inr (inr (inl is)))) (closes_status before after _ 4 status closes)
+  audit_status untouched (behaviour.read bytes given short came) = audit_bytes untouched bytes given came
 
 one_of : (status wanted : ℕ) → ¬ (wanted ≡ 0) → ¬ (wanted ≡ 3) → ¬ (wanted ≡ 7) → ¬ (wanted ≡ 9) → (status ≡ 0) ⊎ (status ≡ 3) ⊎ (status ≡ 7) ⊎ (status ≡ 9) → status ≡ wanted → ⊥
 one_of status wanted a b c d (inl is) same = a (omega (arith, is, same))

@@ -1,6 +1,5 @@
 -- What a status tells of the way that a command went.
-use Rattle.std.proofs.Common.{◌≡◌, ◌⊎◌, ℕ, ◌≤◌, List, Option, Some, None, true, false, inl, inr, refl, subst, arith, ⊎_elim}
-use Rattle.std.specs.Prelude.{is_some}
+use Rattle.std.proofs.Common.{◌≡◌, ◌⊎◌, ℕ, ◌≤◌, List, Some, None, false, inl, inr, refl, subst, arith, ⊎_elim}
 use Rattle.tf_numbers.specs.Numbers.{Rises}
 use Rattle.tf_desk.specs.State.{DeskState}
 use Rattle.tf_ports.specs.Ports.{Contents}
@@ -10,14 +9,14 @@ use Rattle.tf_actions.specs.declared.orders.Order.{Order}
 use Rattle.tf_actions.specs.declared.outcomes.Outcome.{Outcome}
 use Rattle.tf_words.specs.declared.asked.Asked.{Asked}
 use Rattle.tf_words.specs.declared.asked.Asked.TheVariants as asked
-use Rattle.tf_board.specs.Does.{board_of, IsBoardStatus}
+use Rattle.tf_board.specs.Does.{IsBoardStatus}
 use Rattle.tf_board.proofs.DoesLemmas.{does_status}
 use Rattle.tf_board_service.specs.Sessions.{HasServiceCauses, IsServiceStatus}
 use Rattle.tf_board_service.proofs.CommandLemmas.{service_status}
 use Rattle.tf_commands.specs.Asking.{file_asked_for, book_asked_for, IsWork, Counts, HasEachCause, HasCausesOr, counts_of}
 use Rattle.tf_words.specs.Words.{command_of}
-use Rattle.tf_commands.specs.Course as course
-use Rattle.tf_commands.specs.Course.{PortsTold, Course, Obeys, source_so, IsRefused, IsBoardRefused, IsOldBook}
+use Rattle.tf_commands.specs.Behaviour as behaviour
+use Rattle.tf_commands.specs.Behaviour.{PortsTold, Behaviour, Obeys, source_so, IsRefused, IsBoardRefused, IsOldBook}
 use Rattle.tf_commands.specs.Books.{OnlySays}
 use Rattle.tf_commands.specs.declared.reading.Source.{Source}
 use Rattle.tf_commands.specs.Messages.{IsLogRefused, log_asked_for}
@@ -32,12 +31,17 @@ use Rattle.tf_commands.proofs.WorkLemmas.{works_one}
 
 -- ---- what the words ask for
 
+-- it is asked of a board
+abbrev IsOfBoard : Asked → Type 0
+IsOfBoard (asked.Board board request) = Unit {0}
+IsOfBoard command = ⊥
+
 -- old tells where status 16 comes from
 data AskedStatus (old : Type 0) (command : Asked) (files : Contents) (status : ℕ) : Type 0 where
   by_file : (source : Source) → file_asked_for command ≡ Some source → FileStatus old files source status → AskedStatus old command files status
   by_log : (source : Source) (log : List ℕ) → file_asked_for command ≡ Some source → log_asked_for command ≡ Some log → AuditStatus files source log status → AskedStatus old command files status
   by_book : Ended old status → AskedStatus old command files status
-  by_board : is_some (board_of command) ≡ true → IsBoardStatus status → AskedStatus old command files status
+  by_board : IsOfBoard command → IsBoardStatus status → AskedStatus old command files status
   by_jobs : IsConductStatus status → AskedStatus old command files status
 
 status_usage : {old : Type 0} (command : Asked) (files : Contents) (status : ℕ) → AskedStatus old command files status → status ≡ 2 → ⊥
@@ -54,7 +58,7 @@ status_refused words files command status asks (by_book ended) four = absurd (en
 status_refused words files command status asks (by_board about ended) four = absurd ((board_apart status ended).2 four)
 status_refused words files command status asks (by_jobs ended) four = absurd (conduct_apart status 4 ended four refl)
 
-status_of_board : {old : Type 0} (command : Asked) (files : Contents) (status : ℕ) → AskedStatus old command files status → status ≡ 15 → is_some (board_of command) ≡ true
+status_of_board : {old : Type 0} (command : Asked) (files : Contents) (status : ℕ) → AskedStatus old command files status → status ≡ 15 → IsOfBoard command
 status_of_board command files status (by_file source about is) fifteen = absurd (file_unrefused files source status is fifteen)
 status_of_board command files status (by_log source log file about is) fifteen = absurd (audit_unrefused files source log status is fifteen)
 status_of_board command files status (by_book ended) fifteen = absurd (ended_unrefused status ended fifteen)
@@ -126,76 +130,52 @@ module _ {K : Type 0} (state : K → DeskState) where
       by_jobs (conduct_status obeys.0)
   asked_status gives asked_so (asked.Serve board address sessions) files ports later entry now status obeys =
       by_book (service_ended status (service_status obeys.0))
-  asked_status gives asked_so (asked.Post board name priority details) files ports later entry now status obeys =
-      by_board refl (does_status (asked.Post board name priority details) board (state entry) (state now) status obeys.0)
-  asked_status gives asked_so (asked.Claim board id owner) files ports later entry now status obeys =
-      by_board refl (does_status (asked.Claim board id owner) board (state entry) (state now) status obeys.0)
-  asked_status gives asked_so (asked.Abandon board id owner) files ports later entry now status obeys =
-      by_board refl (does_status (asked.Abandon board id owner) board (state entry) (state now) status obeys.0)
-  asked_status gives asked_so (asked.Consume board id owner) files ports later entry now status obeys =
-      by_board refl (does_status (asked.Consume board id owner) board (state entry) (state now) status obeys.0)
-  asked_status gives asked_so (asked.Trash board id owner) files ports later entry now status obeys =
-      by_board refl (does_status (asked.Trash board id owner) board (state entry) (state now) status obeys.0)
-  asked_status gives asked_so (asked.Owner board id) files ports later entry now status obeys =
-      by_board refl (does_status (asked.Owner board id) board (state entry) (state now) status obeys.0)
-  asked_status gives asked_so (asked.List board) files ports later entry now status obeys =
-      by_board refl (does_status (asked.List board) board (state entry) (state now) status obeys.0)
+  asked_status gives asked_so (asked.Board board request) files ports later entry now status obeys =
+      by_board tt (does_status request board (state entry) (state now) status obeys.0)
 
   -- status 2 comes only where the words are no command
   pub usage_tells : {gives : Want → Order → Outcome → Type 0} {asked_so : Type 0} (words : List (List ℕ)) (files : Contents) (ports later : PortsTold) (entry now : K) (status : ℕ)
-      → Course state gives asked_so words files ports later entry now status → status ≡ 2 → command_of words ≡ None
-  usage_tells words files ports later entry now status (course.unheard is same still) two = absurd (omega arith)
-  usage_tells words files ports later entry now status (course.no_command none closes still) two = none
-  usage_tells {gives} {asked_so} words files ports later entry now status (course.obeyed command asks obeys) two =
+      → Behaviour state gives asked_so words files ports later entry now status → status ≡ 2 → command_of words ≡ None
+  usage_tells words files ports later entry now status (behaviour.unheard is same still) two = absurd (omega arith)
+  usage_tells words files ports later entry now status (behaviour.no_command none closes still) two = none
+  usage_tells {gives} {asked_so} words files ports later entry now status (behaviour.obeyed command asks obeys) two =
       absurd (status_usage command files status (asked_status gives asked_so command files ports later entry now status obeys) two)
 
   -- status 4 comes only where the file is refused
   pub refused_tells : {gives : Want → Order → Outcome → Type 0} {asked_so : Type 0} (words : List (List ℕ)) (files : Contents) (ports later : PortsTold) (entry now : K) (status : ℕ)
-      → Course state gives asked_so words files ports later entry now status → status ≡ 4 → IsRefused words files
-  refused_tells words files ports later entry now status (course.unheard is same still) four = absurd (omega arith)
-  refused_tells words files ports later entry now status (course.no_command none closes still) four =
+      → Behaviour state gives asked_so words files ports later entry now status → status ≡ 4 → IsRefused words files
+  refused_tells words files ports later entry now status (behaviour.unheard is same still) four = absurd (omega arith)
+  refused_tells words files ports later entry now status (behaviour.no_command none closes still) four =
       absurd (⊎_elim (λ is. omega arith) (λ is. omega arith) (closes_status (state entry).shown (state now).shown _ 2 status closes))
-  refused_tells {gives} {asked_so} words files ports later entry now status (course.obeyed command asks obeys) four =
+  refused_tells {gives} {asked_so} words files ports later entry now status (behaviour.obeyed command asks obeys) four =
       status_refused words files command status asks (asked_status gives asked_so command files ports later entry now status obeys) four
 
   on_board : (gives : Want → Order → Outcome → Type 0) (asked_so : Type 0) (words : List (List ℕ)) (command : Asked) (files : Contents) (ports later : PortsTold) (entry now : K) (status : ℕ)
-      → command_of words ≡ Some command → is_some (board_of command) ≡ true → Obeys state gives asked_so command files ports later entry now status → status ≡ 15
+      → command_of words ≡ Some command → IsOfBoard command → Obeys state gives asked_so command files ports later entry now status → status ≡ 15
       → IsBoardRefused words (state entry)
-  on_board gives asked_so words (asked.Post board name priority details) files ports later entry now status asks about obeys is =
-      board_refuses words (asked.Post board name priority details) board (state entry) (state now) status asks refl obeys.0 is
-  on_board gives asked_so words (asked.Claim board id owner) files ports later entry now status asks about obeys is =
-      board_refuses words (asked.Claim board id owner) board (state entry) (state now) status asks refl obeys.0 is
-  on_board gives asked_so words (asked.Abandon board id owner) files ports later entry now status asks about obeys is =
-      board_refuses words (asked.Abandon board id owner) board (state entry) (state now) status asks refl obeys.0 is
-  on_board gives asked_so words (asked.Consume board id owner) files ports later entry now status asks about obeys is =
-      board_refuses words (asked.Consume board id owner) board (state entry) (state now) status asks refl obeys.0 is
-  on_board gives asked_so words (asked.Trash board id owner) files ports later entry now status asks about obeys is =
-      board_refuses words (asked.Trash board id owner) board (state entry) (state now) status asks refl obeys.0 is
-  on_board gives asked_so words (asked.Owner board id) files ports later entry now status asks about obeys is =
-      board_refuses words (asked.Owner board id) board (state entry) (state now) status asks refl obeys.0 is
-  on_board gives asked_so words (asked.List board) files ports later entry now status asks about obeys is =
-      board_refuses words (asked.List board) board (state entry) (state now) status asks refl obeys.0 is
-  on_board gives asked_so words (asked.Try file sets defer hands target) files ports later entry now status asks about obeys is = absurd (cc)
-  on_board gives asked_so words (asked.Run file book sets defer hands stop target) files ports later entry now status asks about obeys is = absurd (cc)
-  on_board gives asked_so words (asked.Resume book name hands stop) files ports later entry now status asks about obeys is = absurd (cc)
-  on_board gives asked_so words (asked.Show book name) files ports later entry now status asks about obeys is = absurd (cc)
-  on_board gives asked_so words (asked.Reset book name) files ports later entry now status asks about obeys is = absurd (cc)
-  on_board gives asked_so words (asked.Details book) files ports later entry now status asks about obeys is = absurd (cc)
-  on_board gives asked_so words (asked.Migrate old new) files ports later entry now status asks about obeys is = absurd (cc)
-  on_board gives asked_so words (asked.Check file sets target) files ports later entry now status asks about obeys is = absurd (cc)
-  on_board gives asked_so words (asked.Audit file log sets defer) files ports later entry now status asks about obeys is = absurd (cc)
-  on_board gives asked_so words (asked.Demo seed size book hands) files ports later entry now status asks about obeys is = absurd (cc)
-  on_board gives asked_so words (asked.Worker address sessions) files ports later entry now status asks about obeys is = absurd (cc)
-  on_board gives asked_so words (asked.Conduct board owner hands) files ports later entry now status asks about obeys is = absurd (cc)
-  on_board gives asked_so words (asked.Serve board address sessions) files ports later entry now status asks about obeys is = absurd (cc)
+  on_board gives asked_so words (asked.Board board request) files ports later entry now status asks about obeys is =
+      board_refuses words board request (state entry) (state now) status asks obeys.0 is
+  on_board gives asked_so words (asked.Try file sets defer hands target) files ports later entry now status asks about obeys is = absurd about
+  on_board gives asked_so words (asked.Run file book sets defer hands stop target) files ports later entry now status asks about obeys is = absurd about
+  on_board gives asked_so words (asked.Resume book name hands stop) files ports later entry now status asks about obeys is = absurd about
+  on_board gives asked_so words (asked.Show book name) files ports later entry now status asks about obeys is = absurd about
+  on_board gives asked_so words (asked.Reset book name) files ports later entry now status asks about obeys is = absurd about
+  on_board gives asked_so words (asked.Details book) files ports later entry now status asks about obeys is = absurd about
+  on_board gives asked_so words (asked.Migrate old new) files ports later entry now status asks about obeys is = absurd about
+  on_board gives asked_so words (asked.Check file sets target) files ports later entry now status asks about obeys is = absurd about
+  on_board gives asked_so words (asked.Audit file log sets defer) files ports later entry now status asks about obeys is = absurd about
+  on_board gives asked_so words (asked.Demo seed size book hands) files ports later entry now status asks about obeys is = absurd about
+  on_board gives asked_so words (asked.Worker address sessions) files ports later entry now status asks about obeys is = absurd about
+  on_board gives asked_so words (asked.Conduct board owner hands) files ports later entry now status asks about obeys is = absurd about
+  on_board gives asked_so words (asked.Serve board address sessions) files ports later entry now status asks about obeys is = absurd about
 
   -- status 15 comes only where a board refuses
   pub board_tells : {gives : Want → Order → Outcome → Type 0} {asked_so : Type 0} (words : List (List ℕ)) (files : Contents) (ports later : PortsTold) (entry now : K) (status : ℕ)
-      → Course state gives asked_so words files ports later entry now status → status ≡ 15 → IsBoardRefused words (state entry)
-  board_tells words files ports later entry now status (course.unheard is same still) fifteen = absurd (omega (arith, is, fifteen))
-  board_tells words files ports later entry now status (course.no_command none closes still) fifteen =
+      → Behaviour state gives asked_so words files ports later entry now status → status ≡ 15 → IsBoardRefused words (state entry)
+  board_tells words files ports later entry now status (behaviour.unheard is same still) fifteen = absurd (omega (arith, is, fifteen))
+  board_tells words files ports later entry now status (behaviour.no_command none closes still) fifteen =
       absurd (⊎_elim (λ is. omega (arith, is, fifteen)) (λ is. omega (arith, is, fifteen)) (closes_status (state entry).shown (state now).shown _ 2 status closes))
-  board_tells {gives} {asked_so} words files ports later entry now status (course.obeyed command asks obeys) fifteen =
+  board_tells {gives} {asked_so} words files ports later entry now status (behaviour.obeyed command asks obeys) fifteen =
       on_board gives asked_so words command files ports later entry now status asks (status_of_board command files status (asked_status gives asked_so command files ports later entry now status obeys) fifteen) obeys fifteen
 
 -- ---- status 16
@@ -203,11 +183,11 @@ module _ {K : Type 0} (state : K → DeskState) where
 module _ {K : Type 0} (state : K → DeskState) where
   -- status 16 comes only where a book is one of the older format
   pub old_tells : {gives : Want → Order → Outcome → Type 0} {asked_so : Type 0} (words : List (List ℕ)) (files : Contents) (ports later : PortsTold) (entry now : K) (status : ℕ)
-      → Course state gives asked_so words files ports later entry now status → status ≡ 16 → IsOldBook words (state entry)
-  old_tells words files ports later entry now status (course.unheard is same still) sixteen = absurd (omega (arith, is, sixteen))
-  old_tells words files ports later entry now status (course.no_command none closes still) sixteen =
+      → Behaviour state gives asked_so words files ports later entry now status → status ≡ 16 → IsOldBook words (state entry)
+  old_tells words files ports later entry now status (behaviour.unheard is same still) sixteen = absurd (omega (arith, is, sixteen))
+  old_tells words files ports later entry now status (behaviour.no_command none closes still) sixteen =
       absurd (⊎_elim (λ is. omega (arith, is, sixteen)) (λ is. omega (arith, is, sixteen)) (closes_status (state entry).shown (state now).shown _ 2 status closes))
-  old_tells {gives} {asked_so} words files ports later entry now status (course.obeyed command asks obeys) sixteen =
+  old_tells {gives} {asked_so} words files ports later entry now status (behaviour.obeyed command asks obeys) sixteen =
       let old = status_old command files status (asked_status state gives asked_so command files ports later entry now status obeys) sixteen in
       record { command = command; name = old.0; asks = asks; about = old.1; old = old.2 }
 
@@ -216,11 +196,11 @@ module _ {K : Type 0} (state : K → DeskState) where
 module _ {K : Type 0} (state : K → DeskState) where
   -- status 17 comes only where a log is refused
   pub log_tells : {gives : Want → Order → Outcome → Type 0} {asked_so : Type 0} (words : List (List ℕ)) (files : Contents) (ports later : PortsTold) (entry now : K) (status : ℕ)
-      → Course state gives asked_so words files ports later entry now status → status ≡ 17 → IsLogRefused words files
-  log_tells words files ports later entry now status (course.unheard is same still) last = absurd (omega (arith, is, last))
-  log_tells words files ports later entry now status (course.no_command none closes still) last =
+      → Behaviour state gives asked_so words files ports later entry now status → status ≡ 17 → IsLogRefused words files
+  log_tells words files ports later entry now status (behaviour.unheard is same still) last = absurd (omega (arith, is, last))
+  log_tells words files ports later entry now status (behaviour.no_command none closes still) last =
       absurd (⊎_elim (λ is. omega (arith, is, last)) (λ is. omega (arith, is, last)) (closes_status (state entry).shown (state now).shown _ 2 status closes))
-  log_tells {gives} {asked_so} words files ports later entry now status (course.obeyed command asks obeys) last =
+  log_tells {gives} {asked_so} words files ports later entry now status (behaviour.obeyed command asks obeys) last =
       status_log_refused words files command status asks (asked_status state gives asked_so command files ports later entry now status obeys) last
 
 -- ---- causes

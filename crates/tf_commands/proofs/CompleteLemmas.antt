@@ -25,8 +25,8 @@ use Rattle.tf_commands.specs.Asking.{demo_tree, Counts, HasEachCause, HasNoFault
 use Rattle.tf_commands.specs.Messages.{Audits}
 use Rattle.tf_words.specs.Words.{command_of}
 use Rattle.tf_commands.specs.Books.{IsAskedFor, Unopened, exhausted, disk_failed_opening, old_book, no_book, Unfound, unopened_book, empty, not_there, Unhired, exhausted_hire, unhired, Promised, RunsAnew, overfull, ran, Runs, unopened, forbidden, too_many, unhired_run, hired_run, Demonstrates, ungenerated, demonstrated, Resumes, unfound_again, unhired_again, resumed, ShowsBook, unfound_show, shown_whole, ListsDetails, unopened_list, were_listed, ResetsBook, unfound_reset, reset_forbidden, was_reset, book_at, HoldsNoFlow, IsResetSaid, all_back, disk_failed_back, filled_back, spoken_run, heading_of, stop_status, MayRun, Ran, ShowsLines, closed, line_cut, stopped, IsLastSaid, reported, disk_failed as disk_said, filled}
-use Rattle.tf_commands.specs.Course as course
-use Rattle.tf_commands.specs.Course.{PortsTold, Tries, Checks, Course, Obeys, source_so, IsBook, HasPlace, HoldsFlow, HoldsReverted, IsRunComplete, IsRunCompleteBy, IsDoneComplete, IsResetComplete, MayBeDone, IsComplete}
+use Rattle.tf_commands.specs.Behaviour as behaviour
+use Rattle.tf_commands.specs.Behaviour.{PortsTold, Tries, Checks, Behaviour, Obeys, source_so, IsBook, HasPlace, HoldsFlow, HoldsReverted, IsRunComplete, IsRunCompleteBy, IsDoneComplete, IsResetComplete, MayBeDone, IsComplete}
 use Rattle.tf_commands.specs.declared.running.Request.{Request}
 use Rattle.tf_report.specs.Closing.{ClosesWithOrStops}
 use Rattle.tf_report.proofs.ClosingLemmas.{closes_status}
@@ -122,9 +122,9 @@ unhurt status before after causes none = record {
 
 tries_well : {gives : Order → Outcome → Type 0} {hands : Want} {asked : Type 0} (crew crew_after : CrewTold) (before after : Option (List ℕ)) (tree : PlanTree) (status : ℕ) → IsUnhurt status → ¬ asked
     → Tries gives hands asked crew crew_after before after tree status → IsRunComplete status
-tries_well crew crew_after before after tree status u unasked (course.unfinished_hire stays is same) = out_well status is
-tries_well crew crew_after before after tree status u unasked (course.unhired same closes) = absurd (⊎_elim u.hirable u.sayable (closes_status before after _ 8 status closes))
-tries_well {gives} {hands} {asked} crew crew_after before after tree status u unasked (course.tried hires t) =
+tries_well crew crew_after before after tree status u unasked (behaviour.unfinished_hire stays is same) = out_well status is
+tries_well crew crew_after before after tree status u unasked (behaviour.unhired same closes) = absurd (⊎_elim u.hirable u.sayable (closes_status before after _ 8 status closes))
+tries_well {gives} {hands} {asked} crew crew_after before after tree status u unasked (behaviour.tried hires t) =
     let contents = begun_contents [] t.plan in
     let apart = ran_apart contents t.plan [] t.entries t.stop before after t.closing status t.ran in
     ended_well_by None status (length t.entries) asked (ran_ended {old = ⊥} contents t.plan [] t.entries t.stop before after t.closing status t.ran) (λ never. never) u.sound apart.0 u.sayable u.hirable apart.1 unasked
@@ -278,13 +278,7 @@ out_complete (asked.Reset book name) status is = inr (inl is)
 out_complete (asked.Audit file log sets defer) status is = inr is
 out_complete (asked.Demo seed size book hands) status is = out_well status is
 out_complete (asked.Worker address sessions) status is = inr is
-out_complete (asked.Post board name priority details) status is = inr (inl is)
-out_complete (asked.Claim board id owner) status is = inr (inl is)
-out_complete (asked.Abandon board id owner) status is = inr (inl is)
-out_complete (asked.Consume board id owner) status is = inr (inl is)
-out_complete (asked.Trash board id owner) status is = inr (inl is)
-out_complete (asked.Owner board id) status is = inr (inl is)
-out_complete (asked.List board) status is = inr (inl is)
+out_complete (asked.Board board request) status is = inr (inl is)
 out_complete (asked.Conduct board owner hands) status is = inr (inl is)
 out_complete (asked.Serve board address sessions) status is = inr (inl is)
 
@@ -321,28 +315,16 @@ module _ {K : Type 0} (state : K → DeskState) where
       conducts_complete obeys.0 ready.0 ready.1 u.readable u.sound u.sayable u.hirable
   asked_well gives asked_so (asked.Serve board address sessions) files ports later entry now status u unasked ready obeys =
       serves_complete obeys.0 ready.0 ready.1 u.sound u.sayable u.hirable
-  asked_well gives asked_so (asked.Post board name priority details) files ports later entry now status u unasked ready obeys =
-      complete_so (asked.Post board name priority details) board (state entry) (state now) status obeys.0 ready.0 ready.1 u.sound u.sayable
-  asked_well gives asked_so (asked.Claim board id owner) files ports later entry now status u unasked ready obeys =
-      complete_so (asked.Claim board id owner) board (state entry) (state now) status obeys.0 ready.0 ready.1 u.sound u.sayable
-  asked_well gives asked_so (asked.Abandon board id owner) files ports later entry now status u unasked ready obeys =
-      complete_so (asked.Abandon board id owner) board (state entry) (state now) status obeys.0 ready.0 ready.1 u.sound u.sayable
-  asked_well gives asked_so (asked.Consume board id owner) files ports later entry now status u unasked ready obeys =
-      complete_so (asked.Consume board id owner) board (state entry) (state now) status obeys.0 ready.0 ready.1 u.sound u.sayable
-  asked_well gives asked_so (asked.Trash board id owner) files ports later entry now status u unasked ready obeys =
-      complete_so (asked.Trash board id owner) board (state entry) (state now) status obeys.0 ready.0 ready.1 u.sound u.sayable
-  asked_well gives asked_so (asked.Owner board id) files ports later entry now status u unasked ready obeys =
-      complete_so (asked.Owner board id) board (state entry) (state now) status obeys.0 ready.0 ready.1 u.sound u.sayable
-  asked_well gives asked_so (asked.List board) files ports later entry now status u unasked ready obeys =
-      complete_so (asked.List board) board (state entry) (state now) status obeys.0 ready.0 ready.1 u.sound u.sayable
+  asked_well gives asked_so (asked.Board board request) files ports later entry now status u unasked ready obeys =
+      complete_so request board (state entry) (state now) status obeys.0 ready.0 ready.1 u.sound u.sayable
 
   -- where nothing stands against it and no count of faults rose, what was asked for was done
   pub completes : {gives : Want → Order → Outcome → Type 0} {asked_so : Type 0} (words : List (List ℕ)) (files : Contents) (ports later : PortsTold) (entry now : K) (status : ℕ) (before after : Counts)
-      → Course state gives asked_so words files ports later entry now status → HasEachCause status before after
+      → Behaviour state gives asked_so words files ports later entry now status → HasEachCause status before after
       → (command : Asked) → command_of words ≡ Some command → MayBeDone command files (state entry) → HasNoFault before after → ¬ asked_so → IsComplete command status
-  completes words files ports later entry now status before after (course.unheard is same still) causes command wanted ready none unasked = out_complete command status is
-  completes words files ports later entry now status before after (course.no_command unknown closes still) causes command wanted ready none unasked = absurd (cc)
-  completes {gives} {asked_so} words files ports later entry now status before after (course.obeyed other asks obeys) causes command wanted ready none unasked =
+  completes words files ports later entry now status before after (behaviour.unheard is same still) causes command wanted ready none unasked = out_complete command status is
+  completes words files ports later entry now status before after (behaviour.no_command unknown closes still) causes command wanted ready none unasked = absurd (cc)
+  completes {gives} {asked_so} words files ports later entry now status before after (behaviour.obeyed other asks obeys) causes command wanted ready none unasked =
       let same : other ≡ command = cc in
       asked_well gives asked_so command files ports later entry now status (unhurt status before after causes none) unasked ready
       (subst (λ (c : Asked). Obeys state gives asked_so c files ports later entry now status) same obeys)

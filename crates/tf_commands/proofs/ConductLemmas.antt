@@ -13,15 +13,16 @@ use Rattle.tf_report.specs.Closing.{ClosesWithOrStops}
 use Rattle.tf_report.specs.declared.statuses.TheConstants.{SUCCEEDED, UNREAD, DISK_FAILED, NO_BOOK, UNSAID, UNHIRED, OUT_OF_MEMORY, FULL}
 use Rattle.tf_report.proofs.ClosingLemmas.{ends_status}
 use Rattle.tf_board.specs.Board.{board_in}
-use Rattle.tf_board.specs.Does.{HasCauses, IsBoard, IsBoardComplete}
+use Rattle.tf_board.specs.Does as board
+use Rattle.tf_board.specs.Does.{HasCauses, IsBoard, IsBoardComplete, EndsUnopened}
 use Rattle.tf_shared_board.specs.declared.calls.BoardHalt.{BoardHalt}
 use Rattle.tf_shared_board.specs.declared.calls.BoardHalt.TheVariants as halt
 use Rattle.tf_runner.specs.Conducts as conduct
-use Rattle.tf_runner.specs.Conducts.{Conducts, EndsUnopened, WorksOff, AreManyBack}
+use Rattle.tf_runner.specs.Conducts.{Conducts, WorksOff, AreManyBack}
 use Rattle.tf_shared_board.specs.Shared.{halt_status}
 use Rattle.tf_commands.specs.Asking.{HasCausesOr, counts_of}
 use Rattle.tf_commands.specs.Books.{Hires, AreAllBack}
-use Rattle.tf_commands.specs.Course.{HiresAtMost}
+use Rattle.tf_commands.specs.Behaviour.{HiresAtMost}
 
 -- ---- statuses
 
@@ -67,9 +68,9 @@ halt_one (Some (halt.Full size need)) = is_full refl
 halt_one (Some halt.Memory) = is_out refl
 
 unopened_status : {name : List ℕ} {entry now : DeskState} {status : ℕ} → EndsUnopened name entry now status → IsConductStatus status
-unopened_status (conduct.without_memory is e) = is_out is
-unopened_status (conduct.without_disk e) = closes_so e.closes (is_failed refl)
-unopened_status (conduct.no_board offset byte none still e) = closes_so e.closes (is_no_board refl)
+unopened_status (board.without_memory is e) = is_out is
+unopened_status (board.without_disk e) = closes_so e.closes (is_failed refl)
+unopened_status (board.no_board offset byte none still e) = closes_so e.closes (is_no_board refl)
 
 works_status : {gives : Order → Outcome → Type 0} {files : Contents} {name word : List ℕ} {count : ℕ} {entry now : DeskState} {status : ℕ} → WorksOff gives files name word count entry now status
     → IsConductStatus status
@@ -98,9 +99,9 @@ halt_apart (Some (halt.Full size need)) = λ is. cc
 halt_apart (Some halt.Memory) = λ is. cc
 
 unopened_apart : {name : List ℕ} {entry now : DeskState} {status : ℕ} → EndsUnopened name entry now status → IsTrue entry.tells → IsBoard (board_in (file_of entry name)) → ¬ (status ≡ NO_BOOK)
-unopened_apart (conduct.without_memory is e) told board = λ no. let same = sym is ∙ no in cc
-unopened_apart (conduct.without_disk e) told board = closes_apart e.closes (λ is. cc)
-unopened_apart (conduct.no_board offset byte none still e) told board = absurd (board offset byte (none told))
+unopened_apart (board.without_memory is e) told board = λ no. let same = sym is ∙ no in cc
+unopened_apart (board.without_disk e) told board = closes_apart e.closes (λ is. cc)
+unopened_apart (board.no_board offset byte none still e) told board = absurd (board offset byte (none told))
 
 works_apart : {gives : Order → Outcome → Type 0} {files : Contents} {name word : List ℕ} {count : ℕ} {entry now : DeskState} {status : ℕ} → WorksOff gives files name word count entry now status
     → ¬ (status ≡ NO_BOOK)

@@ -17,8 +17,8 @@ use Rattle.tf_board_service.specs.Sessions as service
 use Rattle.tf_board_service.specs.Sessions.{IsServiceStatus}
 use Rattle.tf_commands.specs.Asking.{demo_tree}
 use Rattle.tf_commands.specs.Books.{IsFile, Unopened, exhausted, disk_failed_opening, old_book, no_book, Unfound, unopened_book, empty, not_there, Refuses, Unhired, exhausted_hire, unhired, Promised, RunsAnew, overfull, ran, Runs, unopened, forbidden, too_many, unhired_run, hired_run, Demonstrates, ungenerated, demonstrated, Resumes, unfound_again, unhired_again, resumed, ShowsBook, unfound_show, shown_whole, ListsDetails, unopened_list, were_listed, ResetsBook, unfound_reset, reset_forbidden, was_reset, IsResetSaid, all_back, disk_failed_back, filled_back, heading_of, stop_status, MayRun, Ran, ShowsLines, closed, line_cut, stopped, IsLastSaid, reported, disk_failed as disk_said, filled}
-use Rattle.tf_commands.specs.Course as course
-use Rattle.tf_commands.specs.Course.{Tries, IsRunComplete}
+use Rattle.tf_commands.specs.Behaviour as behaviour
+use Rattle.tf_commands.specs.Behaviour.{Tries, IsRunComplete}
 use Rattle.tf_commands.specs.declared.running.Request.{Request}
 use Rattle.tf_report.specs.Closing.{ClosesWithOrStops}
 use Rattle.tf_report.proofs.ClosingLemmas.{closes_status}
@@ -138,9 +138,9 @@ ran_suspended {gives} {request} contents plan before entries stop shown now clos
 -- ---- trials and checks
 
 pub tries_ended : {old : Type 0} {gives : Order → Outcome → Type 0} {hands : Want} {asked : Type 0} (crew crew_after : CrewTold) (before after : Option (List ℕ)) (tree : PlanTree) (status : ℕ) → Tries gives hands asked crew crew_after before after tree status → Ended old status
-tries_ended crew crew_after before after tree status (course.unfinished_hire stays is same) = out_ends status is
-tries_ended crew crew_after before after tree status (course.unhired same closes) = ⊎_elim (λ is. is_unhired is) (λ is. is_unsaid is) (closes_status before after _ 8 status closes)
-tries_ended crew crew_after before after tree status (course.tried hires t) = ran_ended (begun_contents [] t.plan) t.plan [] t.entries t.stop before after t.closing status t.ran
+tries_ended crew crew_after before after tree status (behaviour.unfinished_hire stays is same) = out_ends status is
+tries_ended crew crew_after before after tree status (behaviour.unhired same closes) = ⊎_elim (λ is. is_unhired is) (λ is. is_unsaid is) (closes_status before after _ 8 status closes)
+tries_ended crew crew_after before after tree status (behaviour.tried hires t) = ran_ended (begun_contents [] t.plan) t.plan [] t.entries t.stop before after t.closing status t.ran
 
 pub checks_ended : {old : Type 0} (before after : Option (List ℕ)) (message : List ℕ) (status : ℕ) → ClosesWithOrStops before message 0 after status → Ended old status
 checks_ended before after message status (inl out) = out_ends status out.0

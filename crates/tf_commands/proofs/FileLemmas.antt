@@ -6,8 +6,8 @@ use Rattle.tf_words.specs.declared.asked.Asked.{Asked}
 use Rattle.tf_accept.specs.Accepted.{GivesPlan, GivesWhole, GivesNone}
 use Rattle.tf_commands.specs.Asking.{file_asked_for}
 use Rattle.tf_words.specs.Words.{command_of}
-use Rattle.tf_commands.specs.Course as course
-use Rattle.tf_commands.specs.Course.{BytesRead, FileRead, IsRefused, passes_limit, gives_none, IsAccepted}
+use Rattle.tf_commands.specs.Behaviour as behaviour
+use Rattle.tf_commands.specs.Behaviour.{BytesRead, FileRead, IsRefused, passes_limit, gives_none, IsAccepted}
 use Rattle.tf_accept.specs.declared.accepting.Refusal.{Refusal}
 use Rattle.tf_commands.specs.declared.reading.Source.{Source}
 use Rattle.tf_accept.proofs.AcceptLemmas.{gives_one}
@@ -23,19 +23,19 @@ pub data FileStatus (old : Type 0) (files : Contents) (source : Source) (status 
 
 bytes_status : {old : Type 0} (files : Contents) (source : Source) (bytes : List ℕ) (untouched : Type 0) (does : PlanTree → ℕ → Type 0) (before after : Option (List ℕ)) (status : ℕ) → ((plan : PlanTree) → does plan status → Ended old status)
     → GivesBytes files source.file bytes → BytesRead source bytes untouched does before after status → FileStatus old files source status
-bytes_status files source bytes untouched does before after status ends given (course.exhausted still is same) = done_so (out_ends status is)
-bytes_status files source bytes untouched does before after status ends given (course.refused still why none closes) =
+bytes_status files source bytes untouched does before after status ends given (behaviour.exhausted still is same) = done_so (out_ends status is)
+bytes_status files source bytes untouched does before after status ends given (behaviour.refused still why none closes) =
     ⊎_elim (λ is. not_plan is bytes why given none) (λ is. done_so (is_unsaid is)) (closes_status before after _ 4 status closes)
-bytes_status files source bytes untouched does before after status ends given (course.done plan gives did) = done_so (ends plan did)
+bytes_status files source bytes untouched does before after status ends given (behaviour.done plan gives did) = done_so (ends plan did)
 
 pub file_status : {old : Type 0} (files : Contents) (source : Source) (untouched : Type 0) (does : PlanTree → ℕ → Type 0) (before after : Option (List ℕ)) (status : ℕ) → ((plan : PlanTree) → does plan status → Ended old status)
     → FileRead files source untouched does before after status → FileStatus old files source status
-file_status files source untouched does before after status ends (course.unfinished still is same) = done_so (out_ends status is)
-file_status files source untouched does before after status ends (course.unread still closes) =
+file_status files source untouched does before after status ends (behaviour.unfinished still is same) = done_so (out_ends status is)
+file_status files source untouched does before after status ends (behaviour.unread still closes) =
     ⊎_elim (λ is. not_read is) (λ is. done_so (is_unsaid is)) (closes_status before after _ 3 status closes)
-file_status files source untouched does before after status ends (course.too_long still passes closes) =
+file_status files source untouched does before after status ends (behaviour.too_long still passes closes) =
     ⊎_elim (λ is. not_short is passes) (λ is. done_so (is_unsaid is)) (closes_status before after _ 4 status closes)
-file_status files source untouched does before after status ends (course.read bytes given short came) = bytes_status files source bytes untouched does before after status ends given came
+file_status files source untouched does before after status ends (behaviour.read bytes given short came) = bytes_status files source bytes untouched does before after status ends given came
 
 -- the plan that a flow file gives was dealt with
 pub record Deals (files : Contents) (source : Source) (does : PlanTree → ℕ → Type 0) (status : ℕ) : Type 0 where
@@ -48,10 +48,10 @@ pub record Deals (files : Contents) (source : Source) (does : PlanTree → ℕ �
 -- what gives a plan is dealt with, unless memory ran out, or a fault came
 pub accepted_done : (files : Contents) (source : Source) (untouched : Type 0) (does : PlanTree → ℕ → Type 0) (before after : Option (List ℕ)) (status : ℕ) → IsAccepted source files → ¬ (status ≡ 3) → ¬ (status ≡ 7)
     → FileRead files source untouched does before after status → (status ≡ 9) ⊎ Deals files source does status
-accepted_done files source untouched does before after status accepted readable sayable (course.unfinished still is same) = inl is
-accepted_done files source untouched does before after status accepted readable sayable (course.unread still closes) =
+accepted_done files source untouched does before after status accepted readable sayable (behaviour.unfinished still is same) = inl is
+accepted_done files source untouched does before after status accepted readable sayable (behaviour.unread still closes) =
     absurd (⊎_elim readable sayable (closes_status before after _ 3 status closes))
-accepted_done files source untouched does before after status accepted readable sayable (course.too_long still passes closes) =
+accepted_done files source untouched does before after status accepted readable sayable (behaviour.too_long still passes closes) =
     absurd (too_short files source accepted passes)
   where
     too_short : (f : Contents) (src : Source) (a : IsAccepted src f) → PassesLimit f src.file → ⊥
@@ -64,11 +64,11 @@ accepted_done files source untouched does before after status accepted readable 
             let under : Some pass.0 ≡ Some a.bytes = sym pass.1 ∙ ap (λ (t : List ℕ → Option (List ℕ)). t src.file) same ∙ a.under in
             let bytes : pass.0 ≡ a.bytes = cc in
             omega (arith, pass.2, ap length bytes, a.short)
-accepted_done files source untouched does before after status accepted readable sayable (course.read bytes given short came) = by came
+accepted_done files source untouched does before after status accepted readable sayable (behaviour.read bytes given short came) = by came
   where
     by : BytesRead source bytes untouched does before after status → (status ≡ 9) ⊎ Deals files source does status
-    by (course.exhausted still is same) = inl is
-    by (course.refused still why none closes) = absurd (gives_one source.sets source.defer source.target bytes accepted.plan why (gives_here files accepted given) accepted.target none)
+    by (behaviour.exhausted still is same) = inl is
+    by (behaviour.refused still why none closes) = absurd (gives_one source.sets source.defer source.target bytes accepted.plan why (gives_here files accepted given) accepted.target none)
       where
         gives_here : (f : Contents) (a : IsAccepted source f) → GivesBytes f source.file bytes → GivesWhole source.sets source.defer bytes a.plan
         gives_here f a has = on f a.sources has
@@ -80,7 +80,7 @@ accepted_done files source untouched does before after status accepted readable 
                 let under : Some bytes ≡ Some a.bytes = sym got ∙ ap (λ (t : List ℕ → Option (List ℕ)). t source.file) same ∙ a.under in
                 let bytes_are : bytes ≡ a.bytes = cc in
                 subst (λ (b : List ℕ). GivesWhole source.sets source.defer b a.plan) (sym bytes_are) a.given
-    by (course.done plan gives did) = inr (record { plan = plan; bytes = bytes; given = given; gives = gives; did = did })
+    by (behaviour.done plan gives did) = inr (record { plan = plan; bytes = bytes; given = given; gives = gives; did = did })
 
 pub file_unrefused : {old : Type 0} (files : Contents) (source : Source) (status : ℕ) → FileStatus old files source status → status ≡ 15 → ⊥
 file_unrefused files source status (done_so ended) is = ended_unrefused status ended is

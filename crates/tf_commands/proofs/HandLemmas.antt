@@ -5,8 +5,12 @@ use Rattle.tf_ports.specs.declared.crews.Address.{Address}
 use Rattle.tf_ports.specs.declared.crews.Want.{Want}
 use Rattle.tf_ports.specs.declared.crews.Want.TheVariants as want
 use Rattle.tf_values.specs.Text.{is_name}
-use Rattle.tf_words.specs.Words.{worker_of, address_of, addresses_in, addresses_of, pieces_behind, sessions_in, seats_in, serve_of, Applied, id_in, post_of, owner_of, list_of, applied_in, priority_in, details_in, hands_in, remote_of, want_by, want_in, deferral_in, stop_in, target_in, try_of, run_of, resume_of, show_of, reset_of, check_of, audit_of, demo_of, conduct_of, owner_word, asked_by, asked_of, command_of, book_flow_in, details_of, migrate_of}
+use Rattle.tf_words.specs.Words.{worker_of, address_of, addresses_in, addresses_of, pieces_behind, sessions_in, seats_in, serve_of, post_of, apply_of, owner_of, list_of, priority_in, details_in, hands_in, remote_of, want_by, want_in, deferral_in, stop_in, target_in, try_of, run_of, resume_of, show_of, reset_of, check_of, audit_of, demo_of, conduct_of, owner_word, asked_by, asked_of, command_of, book_flow_in, details_of, migrate_of}
 use Rattle.tf_words.specs.Verbs.{number_between, sets_behind, Said, once, are_filled, said_by, Choice, choice_of, forms_of}
+use Rattle.tf_board.specs.Board.{parsed_id}
+use Rattle.tf_board.specs.declared.calls.BoardRequest.TheVariants as request
+use Rattle.tf_board.specs.declared.calls.JobCall.TheVariants as call
+use Rattle.tf_board.specs.declared.commands.JobAction.{JobAction}
 use Rattle.tf_words.specs.declared.asked.Asked.{Asked}
 use Rattle.tf_words.specs.declared.asked.Asked.TheVariants as asked
 use Rattle.tf_words.specs.declared.verbs.Verb.{Verb}
@@ -197,13 +201,21 @@ post_hands : (said : Said) (words : List (List ℕ)) → IfSome (post_of said wo
 post_hands said [] = tt
 post_hands said (board ∷ []) = tt
 post_hands said (board ∷ job ∷ []) =
-    all_where HasHands (is_name job) _ (all_then HasHands _ (priority_in said) (λ p is. all_map HasHands (λ d. asked.Post board job p d) (details_in said) (λ d. tt)))
+    all_where HasHands (is_name job) _ (all_then HasHands _ (priority_in said) (λ p is. all_map HasHands (λ d. asked.Board board (request.Call (call.Post job p d))) (details_in said) (λ d. tt)))
 post_hands said (board ∷ job ∷ more ∷ others) = tt
+
+apply_hands : (action : JobAction) (words : List (List ℕ)) → IfSome (apply_of action words) HasHands
+apply_hands action [] = tt
+apply_hands action (board ∷ []) = tt
+apply_hands action (board ∷ id ∷ []) = tt
+apply_hands action (board ∷ id ∷ owner ∷ []) =
+    all_then HasHands _ (parsed_id id) (λ i is. all_where HasHands (is_name owner) (Some (asked.Board board (request.Call (call.Apply action i owner)))) tt)
+apply_hands action (board ∷ id ∷ owner ∷ more ∷ others) = tt
 
 owner_hands : (words : List (List ℕ)) → IfSome (owner_of words) HasHands
 owner_hands [] = tt
 owner_hands (board ∷ []) = tt
-owner_hands (board ∷ id ∷ []) = all_map HasHands (λ i. asked.Owner board i) (id_in id) (λ i. tt)
+owner_hands (board ∷ id ∷ []) = all_map HasHands (λ i. asked.Board board (request.Owner i)) (parsed_id id) (λ i. tt)
 owner_hands (board ∷ id ∷ more ∷ others) = tt
 
 list_hands : (words : List (List ℕ)) → IfSome (list_of words) HasHands
@@ -227,10 +239,7 @@ asked_hands verb.Demo said = demo_hands said (said [])
 asked_hands verb.Worker said = worker_hands said (said [])
 asked_hands verb.Conduct said = conduct_hands said (said [])
 asked_hands verb.Post said = post_hands said (said [])
-asked_hands verb.Claim said = all_map HasHands (λ (found : Applied). asked.Claim found.board found.id found.owner) (applied_in (said [])) (λ found. tt)
-asked_hands verb.Abandon said = all_map HasHands (λ (found : Applied). asked.Abandon found.board found.id found.owner) (applied_in (said [])) (λ found. tt)
-asked_hands verb.Consume said = all_map HasHands (λ (found : Applied). asked.Consume found.board found.id found.owner) (applied_in (said [])) (λ found. tt)
-asked_hands verb.Trash said = all_map HasHands (λ (found : Applied). asked.Trash found.board found.id found.owner) (applied_in (said [])) (λ found. tt)
+asked_hands (verb.Apply action) said = apply_hands action (said [])
 asked_hands verb.Owner said = owner_hands (said [])
 asked_hands verb.List said = list_hands (said [])
 asked_hands verb.Serve said = serve_hands said (said [])

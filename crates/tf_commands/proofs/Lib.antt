@@ -11,7 +11,7 @@ pub mod HeldLemmas
 pub mod HaltLemmas
 pub mod HandLemmas
 pub mod ResetLemmas
-pub mod CourseLemmas
+pub mod BehaviourLemmas
 pub mod EndLemmas
 pub mod ConductLemmas
 pub mod FileLemmas

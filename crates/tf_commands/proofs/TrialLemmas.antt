@@ -23,7 +23,7 @@ use Rattle.tf_book.specs.declared.faults.Halt.TheVariants as halt
 use Rattle.tf_book.proofs.SpokenLemmas.{shown_none}
 use Rattle.tf_commands.specs.Begun.{cause_in}
 use Rattle.tf_commands.specs.Asking.{HasEachCause, counts_of}
-use Rattle.tf_commands.specs.Course.{Tried}
+use Rattle.tf_commands.specs.Behaviour.{Tried}
 use Rattle.std.specs.List.{AllByRecursion}
 use Rattle.tf_model.specs.Plan.{outline_of}
 use Rattle.tf_ports.specs.Ports.{IsFresh}

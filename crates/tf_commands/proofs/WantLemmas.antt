@@ -18,7 +18,7 @@ use Rattle.tf_ports.specs.declared.crews.Want.TheVariants as want
 use Rattle.tf_details.specs.Elements.{Element, Contents}
 use Rattle.tf_commands.specs.Books.{Promised, RunsAnew, overfull, ran, Hires, AreAllBack, AreFreshBack, HasStopped}
 use Rattle.tf_commands.proofs.OrderLemmas.{given_back}
-use Rattle.tf_commands.specs.Course.{Tried}
+use Rattle.tf_commands.specs.Behaviour.{Tried}
 use Rattle.tf_commands.specs.declared.running.Request.{Request}
 
 count_of_near : (H F : Type 0) (w : Want) (near : Vec H Global) → AreWanted {H = H} {F = F} w (hands.Local near) → vec_len near ≡ wanted w

@@ -20,8 +20,8 @@ pub record AreHands (hands : Want) : Type 0 where
   pub least : 1 ≤ number_of hands
   pub most : number_of hands ≤ 64
 
--- the hands that run a flow, the numbers of a generated one, the conductors and the word that names their owners, and the sessions of a board's service are
--- within their bounds
+-- the hands that run a flow, the numbers of a generated one, the conductors and the word that names their owners, and
+-- the sessions of a board's service are within their bounds
 abbrev pub IsWithin : Asked → Type 0
 IsWithin (asked.Try file sets defer hands target) = AreHands hands
 IsWithin (asked.Run file book sets defer hands stop target) = AreHands hands
@@ -55,13 +55,17 @@ IsWork command = ⊥
 abbrev pub AsksForWork : List (List ℕ) → Type 0
 AsksForWork words = (command : Asked) × (command_of words ≡ Some command) × IsWork command
 
--- the flow file that a command is about, with the values that its store gets besides and the target up to which it goes; a check defers no reverts,
--- and an audit has no target
+-- the flow file that a command is about, with the values that its store gets besides and the target up to which it
+-- goes; a check defers no reverts, and an audit has no target
 abbrev pub file_asked_for : Asked → Option Source
-file_asked_for (asked.Try file sets defer hands target) = Some (record { file = file; sets = sets; defer = defer; target = target })
-file_asked_for (asked.Run file book sets defer hands stop target) = Some (record { file = file; sets = sets; defer = defer; target = target })
-file_asked_for (asked.Check file sets target) = Some (record { file = file; sets = sets; defer = false; target = target })
-file_asked_for (asked.Audit file log sets defer) = Some (record { file = file; sets = sets; defer = defer; target = None })
+file_asked_for (asked.Try file sets defer hands target) =
+    Some (record { file = file; sets = sets; defer = defer; target = target })
+file_asked_for (asked.Run file book sets defer hands stop target) =
+    Some (record { file = file; sets = sets; defer = defer; target = target })
+file_asked_for (asked.Check file sets target) =
+    Some (record { file = file; sets = sets; defer = false; target = target })
+file_asked_for (asked.Audit file log sets defer) =
+    Some (record { file = file; sets = sets; defer = defer; target = None })
 file_asked_for command = None
 
 -- the book that a command is about
@@ -96,7 +100,8 @@ pub record NoneFalls (before after : Counts) : Type 0 where
   pub sources : before.sources ≤ after.sources
   pub crew : before.crew ≤ after.crew
 
--- a file can't be read, the disk fails, a text can't be said and no hand is hired only where the count of such faults rose
+-- a file can't be read, the disk fails, a text can't be said and no hand is hired only where the count of such faults
+-- rose
 pub record HasEachCause (status : ℕ) (before after : Counts) : Type 0 where
   pub none_falls : NoneFalls before after
   pub unread : status ≡ UNREAD → Rises before.sources after.sources

@@ -69,9 +69,11 @@ desk_found (Err over) = over.desk
 
 -- a crash left what was found at first, or the new detail behind the elements, and nothing more was shown
 abbrev pub MayBegin : Recovered → List Element → PlanValue → Option (List ℕ) → Pairs
-MayBegin first elements plan shown image text = FindsSince first (begun_contents elements plan) [] (book_in image) × (shown ≡ Some text)
+MayBegin first elements plan shown image text =
+    FindsSince first (begun_contents elements plan) [] (book_in image) × (shown ≡ Some text)
 
--- since a call's entry nothing was said, the output had no fault, and no count fell; and the file of that name is picked and synced
+-- since a call's entry nothing was said, the output had no fault, and no count fell; and the file of that name is
+-- picked and synced
 pub record IsQuiet (name : List ℕ) (entry now : DeskState) : Type 0 where
   pub told : now.tells ≡ entry.tells
   pub shown : now.shown ≡ entry.shown
@@ -79,22 +81,25 @@ pub record IsQuiet (name : List ℕ) (entry now : DeskState) : Type 0 where
   pub out : now.out_faults ≡ entry.out_faults
   pub set : IsTrue entry.tells → IsSet name entry now
 
--- the book of the plan began with the empty history, as a new detail behind the elements; where the file held no flow and had at most 18 bytes, each
--- byte of it is known
-pub record Begins {K : Type 0} (state : K → DeskState) (name : List ℕ) (entry : DeskState) (elements : List Element) (plan : PlanValue) (book : BookValue K) : Type 0 where
+-- the book of the plan began with the empty history, as a new detail behind the elements; where the file held no flow
+-- and had at most 18 bytes, each byte of it is known
+pub record Begins {K : Type 0} (state : K → DeskState) (name : List ℕ) (entry : DeskState) (elements : List Element)
+    (plan : PlanValue) (book : BookValue K) : Type 0 where
   pub plan_is : book.plan ≡ plan
   pub past_is : book.past ≡ []
   pub contents_is : book.contents ≡ begun_contents elements plan
   pub sound : book.halt ≡ None
   pub kept : book.journal.volatile ≡ false
   pub quiet : IsQuiet name entry (state book.journal.desk)
-  pub path : IsTrue entry.tells → Path name entry (state book.journal.desk) (MayBegin (book_at entry name) elements plan entry.shown)
+  pub path : IsTrue entry.tells → Path name entry (state book.journal.desk)
+      (MayBegin (book_at entry name) elements plan entry.shown)
       (λ image. HoldsWith (begun_contents elements plan) [] (book_in image))
   pub exact : IsTrue entry.tells → HoldsNoFlow (book_at entry name) → length (file_of entry name) ≤ 18
       → IsExact (state book.journal.desk) (begun_contents elements plan)
 
 -- it couldn't begin: the disk failed, or memory ran out, and the file is as it was
-pub record Unbegun (name : List ℕ) (entry : DeskState) (elements : List Element) (plan : PlanValue) (now : DeskState) : Type 0 where
+pub record Unbegun (name : List ℕ) (entry : DeskState) (elements : List Element) (plan : PlanValue)
+    (now : DeskState) : Type 0 where
   pub quiet : IsQuiet name entry now
   pub same : ¬ (Rises entry.disk_faults now.disk_faults) → IsTrue entry.tells → file_of now name ≡ file_of entry name
   pub path : IsTrue entry.tells → Path name entry now (MayBegin (book_at entry name) elements plan entry.shown)
@@ -108,9 +113,11 @@ cause_in (book_fault.Full size need) = halt.Full size need
 cause_in book_fault.Memory = halt.Memory
 cause_in (book_fault.Halted cause) = cause
 
--- why it couldn't: the disk failed, and its count rose; memory ran out; or the journal is full for the new detail, and the desk stayed
+-- why it couldn't: the disk failed, and its count rose; memory ran out; or the journal is full for the new detail, and
+-- the desk stayed
 abbrev pub FailsToBegin : {K : Type 0} → (K → DeskState) → List Element → PlanValue → BookFault → K → K → Type 0
 FailsToBegin state elements plan book_fault.Disk old new = Rises (state old).disk_faults (state new).disk_faults
 FailsToBegin state elements plan book_fault.Memory old new = Unit {0}
-FailsToBegin state elements plan (book_fault.Full size need) old new = IsFullToBegin elements plan size need × (new ≡ old)
+FailsToBegin state elements plan (book_fault.Full size need) old new =
+    IsFullToBegin elements plan size need × (new ≡ old)
 FailsToBegin state elements plan other old new = ⊥

@@ -1,7 +1,7 @@
 pub mod Asking
 pub mod Messages
 pub mod Books
-pub mod Course
+pub mod Behaviour
 pub mod Opened
 pub mod Runs
 pub mod Begun

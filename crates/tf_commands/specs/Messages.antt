@@ -96,7 +96,8 @@ spaced name = 32 ∷ name
 
 -- why a plan doesn't compile; want of memory says nothing
 abbrev pub compile_fault_text : CompileFault → List ℕ
-compile_fault_text (compile_fault.Ambiguous symbol first second) = codes "ambiguous " ++ symbol ++ 32 ∷ first ++ 32 ∷ second
+compile_fault_text (compile_fault.Ambiguous symbol first second) =
+    codes "ambiguous " ++ symbol ++ 32 ∷ first ++ 32 ∷ second
 compile_fault_text (compile_fault.Cycle names) = codes "cycle" ++ flat_map spaced names
 compile_fault_text compile_fault.Memory = []
 
@@ -159,13 +160,16 @@ tasks_below plan n = length (which_below n (is_task plan))
 
 -- what a generated flow's run says before its report: how many tasks it has, and how many entries its history
 unfoldable pub summary : Outline → ℕ → List ℕ
-summary plan entries = codes "demo " ++ decimal (tasks_below plan (count plan)) ++ codes " tasks, " ++ decimal entries ++ codes " entries\n"
+summary plan entries =
+    codes "demo " ++ decimal (tasks_below plan (count plan)) ++ codes " tasks, " ++ decimal entries
+    ++ codes " entries\n"
 
 -- what a check says of a plan: how many tasks, retry controllers and flows it has
 unfoldable pub checked : Outline → List ℕ
 checked plan =
     codes "ok " ++ flow_name plan 0 ++ codes ": " ++ decimal (tasks_below plan (count plan)) ++ codes " tasks, "
-    ++ decimal (count plan - tasks_below plan (count plan)) ++ codes " retries, " ++ decimal (length plan.flows) ++ codes " flows\n"
+    ++ decimal (count plan - tasks_below plan (count plan)) ++ codes " retries, " ++ decimal (length plan.flows)
+    ++ codes " flows\n"
 
 -- ---- what becomes of an audit: whether a log can be that of runs of the plan that a flow file gives
 
@@ -179,19 +183,23 @@ pub data Judges (plan : Outline) (bytes : List ℕ) (before after : Option (List
   -- memory ran out and nothing was said
   unjudged : status ≡ OUT_OF_MEMORY → after ≡ before → Judges plan bytes before after status
   -- this is the verdict, and it is said
-  judged : (found : Verdict) → IsVerdict plan bytes found → ClosesWith before (verdict_text plan found) (verdict_status found) after status
+  judged : (found : Verdict) → IsVerdict plan bytes found
+      → ClosesWith before (verdict_text plan found) (verdict_status found) after status
       → Judges plan bytes before after status
 
 -- to audit a log of a plan's runs is to read it and to judge it
-pub data Audits (files : Contents) (log : List ℕ) (before after : Option (List ℕ)) (plan : PlanTree) (status : ℕ) : Type 0 where
+pub data Audits (files : Contents) (log : List ℕ) (before after : Option (List ℕ)) (plan : PlanTree)
+    (status : ℕ) : Type 0 where
   -- memory ran out as it was read
   unfinished_log : status ≡ OUT_OF_MEMORY → after ≡ before → Audits files log before after plan status
   -- it can't be read
   unread_log : ClosesWith before cannot_read UNREAD after status → Audits files log before after plan status
   -- it is longer than a log may be
-  long_log : PassesLimit files log → ClosesWith before log_too_long LOG_REFUSED after status → Audits files log before after plan status
+  long_log : PassesLimit files log → ClosesWith before log_too_long LOG_REFUSED after status
+      → Audits files log before after plan status
   -- its bytes are those that the sources have under its name, and not longer than a log may be
-  audited : (bytes : List ℕ) → GivesBytes files log bytes → length bytes ≤ SOURCE_LIMIT → Judges (outline_in plan) bytes before after status
+  audited : (bytes : List ℕ) → GivesBytes files log bytes → length bytes ≤ SOURCE_LIMIT
+      → Judges (outline_in plan) bytes before after status
       → Audits files log before after plan status
 
 -- the log that a command is about
@@ -251,8 +259,8 @@ IsOver end.Lost = Unit {0}
 IsOver (end.Bad at) = Unit {0}
 IsOver end.Memory = ⊥
 
--- A session that was served: how it ended, what was seen of its link as the door gave it and as it was given back, and the orders that the hand had
--- performed after it, where the hand tells them.
+-- A session that was served: how it ended, what was seen of its link as the door gave it and as it was given back, and
+-- the orders that the hand had performed after it, where the hand tells them.
 pub record Served : Type 0 where
   pub how : ServeEnd
   pub first : SeenLink
@@ -267,26 +275,32 @@ ends_of sessions = map (λ session. session.how) sessions
 abbrev pub seen_with : SeenLink → Option (List Order) → Seen
 seen_with link did = record { left = link.left; sent = link.sent; faults = link.faults; ends = link.ends; did = did }
 
--- Each session is as a worker serves its link, one after the other, all by one hand, which had performed these orders before, and these after.
+-- Each session is as a worker serves its link, one after the other, all by one hand, which had performed these orders
+-- before, and these after.
 abbrev pub AreServed : (Order → Outcome → Type 0) → Option (List Order) → List Served → Option (List Order) → Type 0
 AreServed gives did [] now = now ≡ did
-AreServed gives did (session ∷ others) now = Serves gives (seen_with session.first did) (seen_with session.last session.did) session.how × AreServed gives session.did others now
+AreServed gives did (session ∷ others) now =
+    Serves gives (seen_with session.first did) (seen_with session.last session.did) session.how
+    × AreServed gives session.did others now
 
--- The door gave the links of these sessions, each once and in order, and besides these; and was given back those, each as its session left it, and
--- besides these others.
+-- The door gave the links of these sessions, each once and in order, and besides these; and was given back those, each
+-- as its session left it, and besides these others.
 pub record GivesLinks (sessions : List Served) (more back : List SeenLink) (old new : DoorTold) : Type 0 where
   pub opened : new.opened ≡ old.opened
   pub given : new.given ≡ told_with_all old.given (map (λ session. session.first) sessions ++ more)
   pub returned : new.returned ≡ told_with_all old.returned (map (λ session. session.last) sessions ++ back)
 
--- how a hand that had performed these orders came to those: it performed none; or some in a session over this link, of which no end is told
+-- how a hand that had performed these orders came to those: it performed none; or some in a session over this link, of
+-- which no end is told
 abbrev pub HasServedBesides : (Order → Outcome → Type 0) → List SeenLink → (did now_did : Option (List Order)) → Type 0
 HasServedBesides gives more did now_did = (now_did ≡ did)
-    ⊎ ((first : SeenLink) × (last : SeenLink) × (how : ServeEnd) × (more ≡ first ∷ []) × Serves gives (seen_with first did) (seen_with last now_did) how)
+    ⊎ ((first : SeenLink) × (last : SeenLink) × (how : ServeEnd) × (more ≡ first ∷ [])
+    × Serves gives (seen_with first did) (seen_with last now_did) how)
 
--- these sessions were served, each over the next link that the door gave, by a hand that had performed these orders before, and those after; at most
--- one link besides was given, over which no session came to an end that is told
-pub record ServesLinks (gives : Order → Outcome → Type 0) (did now_did : Option (List Order)) (sessions : List Served) (old new : DoorTold) : Type 0 where
+-- these sessions were served, each over the next link that the door gave, by a hand that had performed these orders
+-- before, and those after; at most one link besides was given, over which no session came to an end that is told
+pub record ServesLinks (gives : Order → Outcome → Type 0) (did now_did : Option (List Order)) (sessions : List Served)
+    (old new : DoorTold) : Type 0 where
   pub then_did : Option (List Order)
   pub are : AreServed gives did sessions then_did
   pub more : List SeenLink
@@ -296,17 +310,20 @@ pub record ServesLinks (gives : Order → Outcome → Type 0) (did now_did : Opt
   pub links : GivesLinks sessions more back old new
 
 -- the same, and no link besides was given
-abbrev pub ServesTheseLinks : (Order → Outcome → Type 0) → (did now_did : Option (List Order)) → List Served → DoorTold → DoorTold → Type 0
-ServesTheseLinks gives did now_did sessions old new = AreServed gives did sessions now_did × GivesLinks sessions [] [] old new
+abbrev pub ServesTheseLinks : (Order → Outcome → Type 0) → (did now_did : Option (List Order)) → List Served → DoorTold
+    → DoorTold → Type 0
+ServesTheseLinks gives did now_did sessions old new =
+    AreServed gives did sessions now_did × GivesLinks sessions [] [] old new
 
 -- sessions that ended so, one line said for each, in order
 pub record SaysSessions (before now : Option (List ℕ)) (ends : List ServeEnd) : Type 0 where
   pub over : AllByRecursion IsOver ends
   pub said : now ≡ shown_with before (session_lines 1 ends)
 
--- The next session was served by a hand that had performed these orders before, and those after: over a link that the door gave for it, and was given
--- back.
-pub record ServesNext (gives : Order → Outcome → Type 0) (did now_did : Option (List Order)) (old new : DoorTold) (session : Served) : Type 0 where
+-- The next session was served by a hand that had performed these orders before, and those after: over a link that the
+-- door gave for it, and was given back.
+pub record ServesNext (gives : Order → Outcome → Type 0) (did now_did : Option (List Order)) (old new : DoorTold)
+    (session : Served) : Type 0 where
   pub last : session.did ≡ now_did
   pub serves : Serves gives (seen_with session.first did) (seen_with session.last now_did) session.how
   pub links : new ≡ took_back (gave_link old session.first) session.last
@@ -319,20 +336,26 @@ pub record SaysSession (before now : Option (List ℕ)) (number : ℕ) (how : Se
 -- its line wasn't said whole: memory ran out in it, or before the line was made, or a prefix of the line was said
 pub data CutsSession (before now : Option (List ℕ)) (number : ℕ) (how : ServeEnd) (status : ℕ) : Type 0 where
   unsaid_whole : status ≡ OUT_OF_MEMORY → now ≡ before → CutsSession before now number how status
-  unsaid_part : status ≡ UNSAID → IsOver how → ShowsPrefix before (session_line number how) now → CutsSession before now number how status
+  unsaid_part : status ≡ UNSAID → IsOver how → ShowsPrefix before (session_line number how) now
+      → CutsSession before now number how status
 
 -- the next session ended, and the line of this number was said
-pub record SaysNext (gives : Order → Outcome → Type 0) (did now_did : Option (List Order)) (old new : DoorTold) (before now : Option (List ℕ)) (number : ℕ) : Type 0 where
+pub record SaysNext (gives : Order → Outcome → Type 0) (did now_did : Option (List Order)) (old new : DoorTold)
+    (before now : Option (List ℕ)) (number : ℕ) : Type 0 where
   pub session : Served
   pub serves : ServesNext gives did now_did old new session
   pub says : SaysSession before now number session.how
 
 -- why there is no next session: memory ran out, no link came, or its line couldn't be said
-pub data StopsNext (gives : Order → Outcome → Type 0) (did now_did : Option (List Order)) (old new : DoorTold) (before now : Option (List ℕ)) (number : ℕ) (status : ℕ) : Type 0 where
-  exhausted_next : status ≡ OUT_OF_MEMORY → now ≡ before → (more back : List SeenLink) → length more ≤ 1 → length back ≤ length more → HasServedBesides gives more did now_did → GivesLinks [] more back old new
+pub data StopsNext (gives : Order → Outcome → Type 0) (did now_did : Option (List Order)) (old new : DoorTold)
+    (before now : Option (List ℕ)) (number : ℕ) (status : ℕ) : Type 0 where
+  exhausted_next : status ≡ OUT_OF_MEMORY → now ≡ before → (more back : List SeenLink) → length more ≤ 1
+      → length back ≤ length more → HasServedBesides gives more did now_did → GivesLinks [] more back old new
       → StopsNext gives did now_did old new before now number status
-  no_next_link : new ≡ old → now_did ≡ did → ClosesWith before cannot_listen UNHIRED now status → StopsNext gives did now_did old new before now number status
-  unsaid_next : status ≡ UNSAID → (session : Served) → ServesNext gives did now_did old new session → IsOver session.how → ShowsPrefix before (session_line number session.how) now
+  no_next_link : new ≡ old → now_did ≡ did → ClosesWith before cannot_listen UNHIRED now status
+      → StopsNext gives did now_did old new before now number status
+  unsaid_next : status ≡ UNSAID → (session : Served) → ServesNext gives did now_did old new session → IsOver session.how
+      → ShowsPrefix before (session_line number session.how) now
       → StopsNext gives did now_did old new before now number status
 
 -- what a status tells that ends the serving: the door or the output had a fault, or memory ran out
@@ -348,19 +371,26 @@ pub record HasServeCause (old new : DeskState) (door_then door_now status : ℕ)
   pub one : (status ≡ SUCCEEDED) ⊎ (status ≡ OUT_OF_MEMORY) ⊎ (status ≡ UNHIRED) ⊎ (status ≡ UNSAID)
 
 -- so many sessions are served, one after the other, by a hand that had performed these orders before, and those after
-pub data ServesAll (gives : Order → Outcome → Type 0) (did now_did : Option (List Order)) (old new : DoorTold) (before now : Option (List ℕ)) (sessions : ℕ) (status : ℕ) : Type 0 where
+pub data ServesAll (gives : Order → Outcome → Type 0) (did now_did : Option (List Order)) (old new : DoorTold)
+    (before now : Option (List ℕ)) (sessions : ℕ) (status : ℕ) : Type 0 where
   -- all were served, and the line of each was said
-  all_served : status ≡ SUCCEEDED → (served : List Served) → length served ≡ sessions → ServesTheseLinks gives did now_did served old new → SaysSessions before now (ends_of served)
+  all_served : status ≡ SUCCEEDED → (served : List Served) → length served ≡ sessions
+      → ServesTheseLinks gives did now_did served old new → SaysSessions before now (ends_of served)
       → ServesAll gives did now_did old new before now sessions status
   -- memory ran out in the next one, or before it
-  exhausted : status ≡ OUT_OF_MEMORY → (served : List Served) → length served < sessions → ServesLinks gives did now_did served old new → SaysSessions before now (ends_of served)
+  exhausted : status ≡ OUT_OF_MEMORY → (served : List Served) → length served < sessions
+      → ServesLinks gives did now_did served old new → SaysSessions before now (ends_of served)
       → ServesAll gives did now_did old new before now sessions status
   -- no link came for the next one, and that is said
-  no_link : (served : List Served) (between : Option (List ℕ)) → length served < sessions → ServesTheseLinks gives did now_did served old new → SaysSessions before between (ends_of served)
-      → ClosesWith between cannot_listen UNHIRED now status → ServesAll gives did now_did old new before now sessions status
+  no_link : (served : List Served) (between : Option (List ℕ)) → length served < sessions
+      → ServesTheseLinks gives did now_did served old new → SaysSessions before between (ends_of served)
+      → ClosesWith between cannot_listen UNHIRED now status
+      → ServesAll gives did now_did old new before now sessions status
   -- a line couldn't be said, and a prefix of the lines was
-  cut_short : status ≡ UNSAID → (served : List Served) → length served ≤ sessions → ServesTheseLinks gives did now_did served old new → AllByRecursion IsOver (ends_of served)
-      → ShowsPrefix before (session_lines 1 (ends_of served)) now → ServesAll gives did now_did old new before now sessions status
+  cut_short : status ≡ UNSAID → (served : List Served) → length served ≤ sessions
+      → ServesTheseLinks gives did now_did served old new → AllByRecursion IsOver (ends_of served)
+      → ShowsPrefix before (session_lines 1 (ends_of served)) now
+      → ServesAll gives did now_did old new before now sessions status
 
 -- one hand was given back, which had been given these orders, where the crew tells it
 abbrev pub IsGivenBack : GivenBack → Option (List Order) → Type 0
@@ -372,19 +402,26 @@ pub record HiresHere (crew crew_after : CrewTold) (did : Option (List Order)) : 
   pub hired : crew_after.hired ≡ told_with crew.hired (want.Local 1)
   pub back : IsGivenBack crew_after.back did
 
--- to work is to hire one hand of this process, which was given no order yet, to open the door at the address, and to serve so many sessions
-pub data Works (gives : Order → Outcome → Type 0) (crew crew_after : CrewTold) (old new : DoorTold) (before now : Option (List ℕ)) (address : Address) (sessions : ℕ) (status : ℕ)
+-- to work is to hire one hand of this process, which was given no order yet, to open the door at the address, and to
+-- serve so many sessions
+pub data Works (gives : Order → Outcome → Type 0) (crew crew_after : CrewTold) (old new : DoorTold)
+    (before now : Option (List ℕ)) (address : Address) (sessions : ℕ) (status : ℕ)
     : Type 0 where
   -- memory ran out as the hand was hired, and nothing was said
-  unhired_memory : crew_after ≡ crew → status ≡ OUT_OF_MEMORY → new ≡ old → now ≡ before → Works gives crew crew_after old new before now address sessions status
+  unhired_memory : crew_after ≡ crew → status ≡ OUT_OF_MEMORY → new ≡ old → now ≡ before
+      → Works gives crew crew_after old new before now address sessions status
   -- no hand could be hired, and that is said
-  unhired : crew_after ≡ crew → new ≡ old → ClosesWith before cannot_hire UNHIRED now status → Works gives crew crew_after old new before now address sessions status
+  unhired : crew_after ≡ crew → new ≡ old → ClosesWith before cannot_hire UNHIRED now status
+      → Works gives crew crew_after old new before now address sessions status
   -- memory ran out before the door was open, and nothing was said
-  unopened_memory : (did : Option (List Order)) → IsFresh did → HiresHere crew crew_after did → status ≡ OUT_OF_MEMORY → new ≡ old → now ≡ before
+  unopened_memory : (did : Option (List Order)) → IsFresh did → HiresHere crew crew_after did → status ≡ OUT_OF_MEMORY
+      → new ≡ old → now ≡ before
       → Works gives crew crew_after old new before now address sessions status
   -- the door couldn't be opened, and that is said
-  unopened : (did : Option (List Order)) → IsFresh did → HiresHere crew crew_after did → new ≡ old → ClosesWith before cannot_listen UNHIRED now status
+  unopened : (did : Option (List Order)) → IsFresh did → HiresHere crew crew_after did → new ≡ old
+      → ClosesWith before cannot_listen UNHIRED now status
       → Works gives crew crew_after old new before now address sessions status
   -- the door was opened there, and the hand served
-  worked : (did now_did : Option (List Order)) → IsFresh did → HiresHere crew crew_after now_did → ServesAll gives did now_did (opened_at old address) new before now sessions status
+  worked : (did now_did : Option (List Order)) → IsFresh did → HiresHere crew crew_after now_did
+      → ServesAll gives did now_did (opened_at old address) new before now sessions status
       → Works gives crew crew_after old new before now address sessions status

@@ -1,4 +1,5 @@
--- What a run of a book keeps, from the book on which it began to the desk that it left; no clause of the top call cites it.
+-- What a run of a book keeps, from the book on which it began to the desk that it left; no clause of the top call cites
+-- it.
 use Rattle.std.specs.Prelude.{◌≡◌, ◌≢◌, ◌⊎◌, ℕ, true, false, IsTrue, List, [], ◌++◌, Option, None}
 use Rattle.tf_numbers.specs.Numbers.{Rises}
 use Rattle.tf_desk.specs.State.{DeskState, Continues, Passes, Says, nothing_left}
@@ -25,13 +26,15 @@ use Rattle.tf_report.specs.Closing.{disk_fault_text, book_full, ClosesWith}
 use Rattle.tf_report.specs.declared.statuses.TheConstants.{UNREAD, DISK_FAILED, UNSAID, UNHIRED, OUT_OF_MEMORY, FULL}
 use Rattle.tf_commands.specs.declared.running.Request.{Request}
 
--- what was said of a halt, by why the book was halted, and how the command ends: a message, or nothing where the output failed or memory
--- ran out
+-- what was said of a halt, by why the book was halted, and how the command ends: a message, or nothing where the output
+-- failed or memory ran out
 abbrev pub SaysHalt : Option (List ℕ) → Option (List ℕ) → Halt → List ℕ → ℕ → Type 0
-SaysHalt before now halt.Disk closing status = (closing ≡ disk_fault_text) × ClosesWith before disk_fault_text DISK_FAILED now status
+SaysHalt before now halt.Disk closing status =
+    (closing ≡ disk_fault_text) × ClosesWith before disk_fault_text DISK_FAILED now status
 SaysHalt before now halt.Out closing status = (closing ≡ []) × (status ≡ UNSAID) × (now ≡ before)
 SaysHalt before now (halt.Full size need) closing status =
-    ((closing ≡ []) × (status ≡ OUT_OF_MEMORY) × (now ≡ before)) ⊎ ((closing ≡ book_full size need) × ClosesWith before (book_full size need) FULL now status)
+    ((closing ≡ []) × (status ≡ OUT_OF_MEMORY) × (now ≡ before))
+    ⊎ ((closing ≡ book_full size need) × ClosesWith before (book_full size need) FULL now status)
 SaysHalt before now halt.Memory closing status = (closing ≡ []) × (status ≡ OUT_OF_MEMORY) × (now ≡ before)
 
 -- there is a message for it
@@ -71,7 +74,8 @@ module _ {K : Type 0} (state : K → DeskState) where
   book_desk book = state book.journal.desk
 
   -- a run went from one book to another that stopped so, by hands that were given these orders
-  pub record IsRunTo (gives : Order → Outcome → Type 0) (request : Request) (asked : Type 0) (did : List (Option (List Order))) (start now : BookValue K) (stop : Option FlowState) : Type 0 where
+  pub record IsRunTo (gives : Order → Outcome → Type 0) (request : Request) (asked : Type 0)
+      (did : List (Option (List Order))) (start now : BookValue K) (stop : Option FlowState) : Type 0 where
     pub kept : SessionInvariant state start now
     pub session : IsSession gives asked (number_of request.want) request.limit (outline start) start.past now.past stop
     pub history : IsHistoryOf start.plan now.past
@@ -83,13 +87,18 @@ module _ {K : Type 0} (state : K → DeskState) where
     pub failed : IsTried (MayRun gives request start.plan now.past) now.halt now.failed
     pub orders_given : WereGiven (now.halt ≡ None) (outline start) start.past now.past did
 
-  -- what a crash since the start may leave and now leaves, of a file that was found so at first, and each byte of a file that was known
-  pub record RunLasts (may : List Entry → Entry → Type 0) (first : Recovered) (start : BookValue K) (now : DeskState) (entries : List Entry) (closing : List ℕ) : Type 0 where
+  -- what a crash since the start may leave and now leaves, of a file that was found so at first, and each byte of a
+  -- file that was known
+  pub record RunLasts (may : List Entry → Entry → Type 0) (first : Recovered) (start : BookValue K) (now : DeskState)
+      (entries : List Entry) (closing : List ℕ) : Type 0 where
     pub pending : List Entry
     pub few : IsPendingSo may start.plan (entries ++ start.past) pending (book_desk start) now
     pub legal : IsLegalBook (with_entries start.contents (pending ++ entries)).elements
-    pub passes : Passes (MayLeave first start.contents start.plan start.quiet start.past entries pending (book_desk start).shown closing) (book_desk start) now
-    pub leaves : LeavesEither book_title now (bodies_with start.contents entries) (bodies_with start.contents (pending ++ entries))
+    pub passes : Passes
+        (MayLeave first start.contents start.plan start.quiet start.past entries pending
+        (book_desk start).shown closing) (book_desk start) now
+    pub leaves : LeavesEither book_title now (bodies_with start.contents entries)
+        (bodies_with start.contents (pending ++ entries))
     pub exact : ¬ (Rises (book_desk start).disk_faults now.disk_faults) → IsExact (book_desk start) start.contents
         → IsExact now (with_entries start.contents entries)
 
@@ -101,12 +110,14 @@ module _ {K : Type 0} (state : K → DeskState) where
       → (first : Recovered) → RunLasts may first start now entries closing
 
   -- from the book on which a run began to the desk that it left, by hands that were given these orders
-  pub record RunsOn (gives : Order → Outcome → Type 0) (request : Request) (asked : Type 0) (did : List (Option (List Order))) (start : BookValue K) (now : DeskState) (status : ℕ) : Type 0 where
+  pub record RunsOn (gives : Order → Outcome → Type 0) (request : Request) (asked : Type 0)
+      (did : List (Option (List Order))) (start : BookValue K) (now : DeskState) (status : ℕ) : Type 0 where
     pub entries : List Entry
     pub stop : Option FlowState
     pub closing : List ℕ
     pub lasts : LastsFrom (MayRun gives request start.plan) start now entries closing
-    pub ran : Ran gives request asked start.contents start.plan start.past entries stop (book_desk start).shown now.shown closing status
+    pub ran : Ran gives request asked start.contents start.plan start.past entries stop
+        (book_desk start).shown now.shown closing status
     pub orders_given : WereGiven (HasStopped status) (outline start) start.past (entries ++ start.past) did
     pub continues : Continues (book_desk start) now
     pub off_disk : start.journal.volatile ≡ true → StaysOffDisk (book_desk start) now
@@ -129,7 +140,8 @@ module _ {K : Type 0} (state : K → DeskState) where
     pub ended : HasEnded (book_desk start) now status
 
 -- a book that was opened goes on: with hands, or without any where its flow had ended; or they couldn't be hired
-pub data GoesFurther {K : Type 0} (gives : Order → Outcome → Type 0) (request : Request) (asked : Type 0) (name : List ℕ) (entry : DeskState) (book : BookValue K)
+pub data GoesFurther {K : Type 0} (gives : Order → Outcome → Type 0) (request : Request) (asked : Type 0)
+    (name : List ℕ) (entry : DeskState) (book : BookValue K)
     (crew crew_after : CrewTold) (now : DeskState) (status : ℕ) : Type 0 where
   nobody : has_ended (flow_state book) ≡ false → Unhired name entry now crew crew_after status
       → GoesFurther gives request asked name entry book crew crew_after now status

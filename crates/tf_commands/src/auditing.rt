@@ -5,7 +5,7 @@ ghost use Rattle.tf_numbers.specs.Numbers.{Rises};
 ghost use Rattle.tf_flow.specs.Plan.{plan_tree};
 ghost use Rattle.tf_machine.specs.Machine.{outline, StandsFor};
 ghost use Rattle.tf_commands.specs.Messages.{Audits, Judges, verdict_status};
-ghost use Rattle.tf_commands.specs.Course.{FileRead};
+ghost use Rattle.tf_commands.specs.Behaviour.{FileRead};
 ghost use Rattle.tf_commands.specs.Books.{NoFileChanges, OnlySays, HasSaid};
 
 use crate::messages::LOG_TOO_LONG;

@@ -3,7 +3,7 @@
 ghost use Rattle.std.specs.Prelude.{◌≡◌, ◌≢◌, ◌≤◌};
 ghost use Rattle.tf_numbers.specs.Numbers.{Rises};
 ghost use Rattle.tf_model.specs.Plan.{outline_of};
-ghost use Rattle.tf_commands.specs.Course.{FileRead, Checks};
+ghost use Rattle.tf_commands.specs.Behaviour.{FileRead, Checks};
 ghost use Rattle.tf_commands.specs.Books.{NoFileChanges, OnlySays, HasSaid};
 ghost use Rattle.tf_commands.specs.Messages.{checked};
 ghost use Rattle.tf_report.specs.Closing.{ClosesWithOrStops};

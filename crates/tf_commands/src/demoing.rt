@@ -8,7 +8,7 @@ ghost use Rattle.tf_words.specs.Words.{IsDemo};
 ghost use Rattle.tf_commands.specs.Asking.{demo_tree, AreHands, HasEachCause, WasAsked, counts_of};
 ghost use Rattle.tf_ports.specs.declared.crews.Want.TheVariants as want;
 ghost use Rattle.tf_commands.specs.Books.{Demonstrates};
-ghost use Rattle.tf_commands.specs.Course.{HiresAtMost};
+ghost use Rattle.tf_commands.specs.Behaviour.{HiresAtMost};
 
 use crate::recording::run_plan;
 use crate::running::{Over, Request};

@@ -74,7 +74,8 @@ pub fn open_flow<K: Desk>(
     ensures opened { IfOk result (λ book. Open name.now (K.state desk) (K.state book.journal.desk)) }
     ensures holds { IfOk result (λ book. HoldsBook name.now wanted.now (K.state desk) book) }
     ensures ready { IfOk result IsReadyBook }
-    ensures unfound { IfErr result (λ over. Unfound name.now wanted.now (K.state desk) (K.state over.desk) over.status) }
+    ensures unfound { IfErr result (λ over. Unfound name.now wanted.now (K.state desk)
+        (K.state over.desk) over.status) }
     ensures asks { (K.state desk).asks ≤ (K.state (desk_found result)).asks }
     ensures causes { IfErr result (λ over. HasEachCause over.status
         (counts_of (K.state desk) 0 0) (counts_of (K.state over.desk) 0 0)) }

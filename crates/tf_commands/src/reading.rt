@@ -6,7 +6,7 @@ ghost use Rattle.tf_flow.specs.Plan.{plan_tree};
 ghost use Rattle.tf_machine.specs.Machine.{StandsFor};
 ghost use Rattle.tf_accept.specs.Accepted.{GivesPlan, is_want_of_memory};
 ghost use Rattle.tf_commands.specs.Messages.{refusal, reason_text};
-ghost use Rattle.tf_commands.specs.Course.{BytesRead, FileRead, Undone};
+ghost use Rattle.tf_commands.specs.Behaviour.{BytesRead, FileRead, Undone};
 ghost use Rattle.tf_commands.specs.Books.{NoFileChanges, OnlySays, HasSaid};
 ghost use Rattle.tf_commands.specs.Opened.{Opened};
 ghost use Rattle.tf_report.specs.Closing.{ClosesWithOrStops};

@@ -10,7 +10,7 @@ ghost use Rattle.tf_book.specs.Book.{HasPlaceFor};
 ghost use Rattle.tf_commands.specs.Asking.{AreHands, HasEachCause, WasAsked, counts_of};
 ghost use Rattle.tf_commands.specs.Begun.{IsShelf, IsShelfOf};
 ghost use Rattle.tf_commands.specs.Books.{Hires, Unhired, RunsAnew, Runs};
-ghost use Rattle.tf_commands.specs.Course.{FileRead, IsUntouched, HiresAtMost};
+ghost use Rattle.tf_commands.specs.Behaviour.{FileRead, IsUntouched, HiresAtMost};
 
 use crate::books::{begin, forbid, open, refuse_book, say_over, say_unbegun, say_unhired};
 use crate::finding::state_named;

@@ -6,7 +6,7 @@ ghost use Rattle.tf_model.specs.Steps.{has_ended};
 ghost use Rattle.tf_commands.specs.Asking.{AreHands, HasEachCause, WasAsked, counts_of};
 ghost use Rattle.tf_ports.specs.Ports.{gives_by};
 ghost use Rattle.tf_commands.specs.Books.{Resumes};
-ghost use Rattle.tf_commands.specs.Course.{HiresAtMost};
+ghost use Rattle.tf_commands.specs.Behaviour.{HiresAtMost};
 ghost use Rattle.tf_commands.specs.Runs.{HoldsBook, GoesFurther, IsRunTo, RunsOn};
 ghost use Rattle.tf_journal.specs.Start.{Open};
 

@@ -1,17 +1,16 @@
-ghost use Rattle.std.specs.Prelude.{◌≡◌, ◌≤◌, false, is_some, None, Some};
-ghost use Rattle.tf_board.specs.Does.{board_of};
+ghost use Rattle.std.specs.Prelude.{◌≡◌, ◌≤◌, None, Some};
 ghost use Rattle.tf_numbers.specs.Numbers.{Rises};
 ghost use Rattle.tf_commands.specs.Asking.{IsWithin, want_of, IsWork, AsksForWork, HasCausesOr, HasNoFault, WasAsked, counts_of};
 ghost use Rattle.tf_commands.specs.Messages.{IsLogRefused};
 ghost use Rattle.tf_words.specs.Words.{command_of};
-ghost use Rattle.tf_commands.specs.Course.{Course, ports_told, HiresAsAsked, HiresAsWanted, Obeys, IsRefused, IsBoardRefused, IsOldBook, MayBeDone, IsComplete};
+ghost use Rattle.tf_commands.specs.Behaviour.{Behaviour, ports_told, HiresAsAsked, HiresAsWanted, Obeys, IsRefused, IsBoardRefused, IsOldBook, MayBeDone, IsComplete};
 ghost use Rattle.tf_commands.specs.declared.auditing.TheConstants.{LOG_REFUSED};
 ghost use Rattle.tf_ports.specs.Ports.{gives_by};
 ghost use Rattle.tf_report.specs.declared.statuses.TheConstants.{BOARD_REFUSED, OLD_BOOK};
 ghost use Rattle.tf_words.specs.declared.asked.Asked.{Asked as AnAsked};
 
 use crate::auditing::audit_file;
-use crate::boards::{is_of_board, on_board};
+use crate::boards::on_board;
 use crate::checking::check_file;
 use crate::demoing::demo_book;
 use crate::detailing::list_details;
@@ -64,7 +63,7 @@ pub fn taskflow<K: Desk + Send, S: Sources, W: Crew, L: Door, R: Threads + Wait 
     // why they give none, what the book held and holds, which hands were hired, at which address a worker's door was
     // opened and how each of its links was served, what was recorded, what was shown, what a crash may leave, and the
     // status.
-    ensures course { Course K.state (gives_by W.Hand.gives W.Far.gives)
+    ensures behaviour { Behaviour K.state (gives_by W.Hand.gives W.Far.gives)
         (WasAsked (K.state outside.desk) (K.state result.outside.desk)) words.now (S.contents outside.sources)
         (ports_told W.told L.told outside.crew outside.door)
         (ports_told W.told L.told result.outside.crew result.outside.door) outside.desk result.outside.desk
@@ -90,7 +89,7 @@ pub fn taskflow<K: Desk + Send, S: Sources, W: Crew, L: Door, R: Threads + Wait 
     // end, or shown, or put back, the details of a book are listed, a book of the older format that holds a flow is
     // carried over into an unborn file, a log none of whose lines can't be is said to be legal, and a command is done on
     // a board that doesn't refuse it, unless a count of faults rose (that of the door for a worker and a board's service
-    // alone), a stop was asked for or memory ran out; 13 comes only as the course says, and 12 only where there is a
+    // alone), a stop was asked for or memory ran out; 13 comes only as the behaviour says, and 12 only where there is a
     // limit of entries.
     ensures complete { (command : AnAsked) → command_of words.now ≡ Some command
         → MayBeDone command (S.contents outside.sources) (K.state outside.desk)
@@ -100,7 +99,7 @@ pub fn taskflow<K: Desk + Send, S: Sources, W: Crew, L: Door, R: Threads + Wait 
         (counts_of (K.state result.outside.desk) (S.faults result.outside.sources) (W.faults result.outside.crew))
         → IsComplete command result.status }
 
-    // Nobody is hired, or exactly the hands that the words ask for, and these are where something was recorded, as the course
+    // Nobody is hired, or exactly the hands that the words ask for, and these are where something was recorded, as the behaviour
     // says.
     ensures hires { HiresAsAsked words.now (W.told outside.crew) (W.told result.outside.crew) }
 
@@ -144,7 +143,7 @@ fn answer<K: Desk + Send, S: Sources, W: Crew, L: Door, R: Threads + Wait + Sync
     crew: &mut W,
     door: &mut L,
 ) -> Over<K>
-    ensures course { Course K.state (gives_by W.Hand.gives W.Far.gives)
+    ensures behaviour { Behaviour K.state (gives_by W.Hand.gives W.Far.gives)
         (WasAsked (K.state desk) (K.state result.desk)) words.now
         (S.contents sources.old) (ports_told W.told L.told crew.old door.old)
         (ports_told W.told L.told crew.new door.new) desk result.desk result.status }
@@ -174,38 +173,8 @@ fn answer<K: Desk + Send, S: Sources, W: Crew, L: Door, R: Threads + Wait + Sync
 }
 
 /// Does what is asked for, and answers the desk and the status.
-fn obey<K: Desk + Send, S: Sources, W: Crew, L: Door, R: Threads + Wait + Sync>(
-    rt: &R,
-    alloc: Global,
-    asked: Asked,
-    desk: K,
-    sources: &mut S,
-    crew: &mut W,
-    door: &mut L,
-) -> Over<K>
-    requires within { IsWithin asked }
-    ensures obeys { Obeys K.state (gives_by W.Hand.gives W.Far.gives)
-        (WasAsked (K.state desk) (K.state result.desk)) asked
-        (S.contents sources.old) (ports_told W.told L.told crew.old door.old)
-        (ports_told W.told L.told crew.new door.new) desk result.desk result.status }
-    ensures hires { HiresAsWanted (want_of asked) (W.told crew.old) (W.told crew.new) }
-    ensures aside { ¬ (IsWork asked) → L.told door.new ≡ L.told door.old }
-    ensures asks { (K.state desk).asks ≤ (K.state result.desk).asks }
-    ensures door { L.faults door.old ≤ L.faults door.new }
-    ensures causes { HasCausesOr (IsWork asked × Rises (L.faults door.old) (L.faults door.new)) result.status
-        (counts_of (K.state desk) (S.faults sources.old) (W.faults crew.old))
-        (counts_of (K.state result.desk) (S.faults sources.new) (W.faults crew.new)) }
-{
-    if is_of_board(&asked) {
-        on_board(alloc, asked, desk)
-    } else {
-        obey_flow(rt, alloc, asked, desk, sources, crew, door)
-    }
-}
-
-/// Does what is asked for of a flow, of a worker or of a board's service, and answers the desk and the status.
 #[tactic(auto, using(crate::proofs::CauseLemmas::widened))]
-fn obey_flow<K: Desk + Send, S: Sources, W: Crew, L: Door, R: Threads + Wait + Sync>(
+fn obey<K: Desk + Send, S: Sources, W: Crew, L: Door, R: Threads + Wait + Sync>(
     rt: &R,
     alloc: Global,
     asked: Asked,
@@ -214,7 +183,6 @@ fn obey_flow<K: Desk + Send, S: Sources, W: Crew, L: Door, R: Threads + Wait + S
     crew: &mut W,
     door: &mut L,
 ) -> Over<K>
-    requires no_board { is_some (board_of asked) ≡ false }
     requires within { IsWithin asked }
     ensures obeys { Obeys K.state (gives_by W.Hand.gives W.Far.gives)
         (WasAsked (K.state desk) (K.state result.desk)) asked
@@ -344,6 +312,6 @@ fn obey_flow<K: Desk + Send, S: Sources, W: Crew, L: Door, R: Threads + Wait + S
             let status = work(alloc, &address, sessions, &mut desk, crew, door);
             Over { desk, status }
         }
-        _ => unreachable!(),
+        Asked::Board { board, request } => on_board(alloc, &board, request, desk),
     }
 }

@@ -6,7 +6,7 @@ ghost use Rattle.tf_flow.specs.Plan.{plan_tree};
 ghost use Rattle.tf_ports.specs.Ports.{gives_by, IsFresh, wanted as number_of};
 ghost use Rattle.tf_machine.specs.Machine.{StandsFor};
 ghost use Rattle.tf_commands.specs.Asking.{AreHands, HasEachCause, WasAsked, counts_of};
-ghost use Rattle.tf_commands.specs.Course.{FileRead, IsUntouched, Tries, Tried, HiresAtMost};
+ghost use Rattle.tf_commands.specs.Behaviour.{FileRead, IsUntouched, Tries, Tried, HiresAtMost};
 ghost use Rattle.tf_commands.specs.Books.{TouchesNoFile, spoken_run};
 
 use crate::books::{say_unbegun, say_unhired};

@@ -4,7 +4,7 @@ ghost use Rattle.std.specs.Prelude.{◌≡◌, ◌≢◌, ◌≤◌, ◌+◌, �
 ghost use Rattle.tf_numbers.specs.Numbers.{Rises};
 ghost use Rattle.tf_commands.specs.Messages.{end_word, session_line, SaysSession, CutsSession, SaysNext, StopsNext, HasStopCause, HasServeCause, HiresHere, ServesAll, Works};
 ghost use Rattle.tf_commands.specs.Books.{OnlySays};
-ghost use Rattle.tf_commands.specs.Course.{HiresAtMost};
+ghost use Rattle.tf_commands.specs.Behaviour.{HiresAtMost};
 ghost use Rattle.tf_ports.specs.Ports.{CrewTold, IsFresh};
 ghost use Rattle.tf_ports.specs.declared.crews.Want.TheVariants as want;
 

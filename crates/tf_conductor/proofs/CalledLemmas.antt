@@ -4,24 +4,24 @@ use Rattle.std.specs.Prelude.{IfOk, IfErr, IfSome, IsSome, IsTrue, slice_get}
 use Rattle.tf_desk.specs.State.{DeskState, GoesOn, MayLeave}
 use Rattle.tf_desk.proofs.StateLemmas.{goes_within}
 use Rattle.tf_board.specs.Board.{BoardValue, LeavesHeld, board_in, refuses_id}
-use Rattle.tf_board.specs.Does.{LeavesRecorded, number_of}
+use Rattle.tf_board.specs.Does.{LeavesRecorded, number_of, asked_for, command_of, job_of, refuses_call, id_named}
 use Rattle.tf_board.specs.Seeking.{free_job, id_at}
 use Rattle.tf_board.specs.declared.commands.Command.{Command}
 use Rattle.tf_board.specs.declared.commands.JobAction.TheVariants as action
 use Rattle.tf_board.proofs.ClaimLemmas.{found_claim}
 use Rattle.tf_board.specs.declared.rules.Refusal.{Refusal}
-use Rattle.tf_shared_board.specs.Shared.{FailsToAsk, fault_for, numbered, asked_for, command_of, job_of, made_command, refuses_call, id_named, SharedValue, HasCause, IsMade, IsShared, FailsToCall}
+use Rattle.tf_shared_board.specs.Shared.{FailsToAsk, fault_for, numbered, SharedValue, HasCause, IsMade, IsShared, FailsToCall}
 use Rattle.tf_shared_board.specs.declared.calls.BoardHalt.{BoardHalt}
 use Rattle.tf_shared_board.specs.declared.calls.BoardHalt.TheVariants as halt
 use Rattle.tf_shared_board.specs.declared.calls.CallFault.{CallFault}
 use Rattle.tf_shared_board.specs.declared.calls.CallFault.TheVariants as call_fault
-use Rattle.tf_shared_board.specs.declared.calls.JobCall.{JobCall}
+use Rattle.tf_board.specs.declared.calls.JobCall.{JobCall}
 use Rattle.tf_shared_board.specs.declared.calls.Made.{Made}
 use Rattle.tf_shared_board.proofs.CallLemmas.{length-followed, length-numbered}
 use Rattle.tf_conductor.specs.declared.turns.Next.{Next}
 use Rattle.tf_conductor.specs.declared.turns.Next.TheVariants as next
 use Rattle.tf_conductor.specs.Conducting.{ConductingValue, MakesNoCall, IsConducting, Claims}
-use Rattle.tf_conductor.specs.Rounds.{IsCallBy, IsConductors, claim_by, HoldsKept, IsBy, LeavesTried}
+use Rattle.tf_conductor.specs.Rounds.{IsConductors, claim_by, HoldsKept, IsBy, LeavesTried}
 use Rattle.tf_conductor.proofs.TurnLemmas.{kept_none, kept_one, same_none, still_goes, still_leaves, tried_of}
 
 -- a call of the conductor of this number is one of a conductor's

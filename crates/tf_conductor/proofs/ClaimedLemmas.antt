@@ -21,8 +21,8 @@ use Rattle.tf_board.proofs.OwnerLemmas.{act_allowed}
 use Rattle.tf_states.specs.declared.priorities.Priority.{Priority}
 use Rattle.tf_states.specs.declared.priorities.Priority.TheVariants as priority
 use Rattle.tf_shared_board.specs.Shared.{followed_by, made_command}
-use Rattle.tf_shared_board.specs.declared.calls.JobCall.{JobCall}
-use Rattle.tf_shared_board.specs.declared.calls.JobCall.TheVariants as call
+use Rattle.tf_board.specs.declared.calls.JobCall.{JobCall}
+use Rattle.tf_board.specs.declared.calls.JobCall.TheVariants as call
 use Rattle.tf_shared_board.specs.declared.calls.Made.{Made}
 use Rattle.tf_conductor.specs.Rounds.{AllClaimed, IsCallBy, IsConductors, IsUnclaimed, claims, is_claimed}
 use Rattle.tf_conductor.specs.Working.{AreLeft, LeavesNoJob}
@@ -88,10 +88,10 @@ jobs_since owners all past (m ∷ calls) by = jobs_since owners all (made_comman
   where
     posts_none : (x : JobCall) → IsCallBy by.0.0 x → jobs_in all (made_command (record { number = m.number; job = m.job; call = x }) ∷ past) ≡ jobs_in all past
     posts_none (call.Post name priority details) is = absurd is
-    posts_none (call.Claim id owner) is = refl
-    posts_none (call.Abandon id owner) is = refl
-    posts_none (call.Consume id owner) is = refl
-    posts_none (call.Trash id owner) is = absurd is
+    posts_none (call.Apply action.Claim id owner) is = refl
+    posts_none (call.Apply action.Abandon id owner) is = refl
+    posts_none (call.Apply action.Consume id owner) is = refl
+    posts_none (call.Apply action.Trash id owner) is = absurd is
 
 -- an id names the same job
 named_restood : (all : List Command) (jobs : List Job) (id : List ℕ) → named (map (restood all) jobs) id ≡ option_map (restood all) (named jobs id)
@@ -134,10 +134,10 @@ free_called past m job owner may mine unclaimed free = by m.call may mine unclai
     by : (x : JobCall) → refuses past (made_command (record { number = m.number; job = m.job; call = x })) ≡ None → IsCallBy owner x → claims job (record { number = m.number; job = m.job; call = x }) ≡ false
         → standing_of (made_command (record { number = m.number; job = m.job; call = x }) ∷ past) job ≡ standing.Free
     by (call.Post name priority details) allowed is none = absurd is
-    by (call.Claim id who) allowed is none = ap (λ (b : Bool). if b then standing.Held who else standing_of past job) none ∙ free
-    by (call.Abandon id who) allowed is none = acted action.Abandon who (λ same. cc) allowed
-    by (call.Consume id who) allowed is none = acted action.Consume who (λ same. cc) allowed
-    by (call.Trash id who) allowed is none = absurd is
+    by (call.Apply action.Claim id who) allowed is none = ap (λ (b : Bool). if b then standing.Held who else standing_of past job) none ∙ free
+    by (call.Apply action.Abandon id who) allowed is none = acted action.Abandon who (λ same. cc) allowed
+    by (call.Apply action.Consume id who) allowed is none = acted action.Consume who (λ same. cc) allowed
+    by (call.Apply action.Trash id who) allowed is none = absurd is
 
 free_still : (owners : List (List ℕ)) (past : List Command) (calls : List Made) (job : ℕ) → LegalJobs (followed_by past calls) → AllByRecursion (IsConductors owners) calls → is_claimed calls job ≡ false
     → standing_of past job ≡ standing.Free → standing_of (followed_by past calls) job ≡ standing.Free

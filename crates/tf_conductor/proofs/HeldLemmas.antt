@@ -3,15 +3,15 @@ use Rattle.std.proofs.Common.{◌≡◌, ◌≢◌, ℕ, List, [], ◌∷◌, �
 use Rattle.std.specs.Prelude.{slice_get}
 use Rattle.std.specs.List.{AllByRecursion}
 use Rattle.tf_board.specs.Board.{LegalJobs}
-use Rattle.tf_board.specs.Does.{applied, number_of}
+use Rattle.tf_board.specs.Does.{applied, number_of, command_of}
 use Rattle.tf_board.specs.Seeking.{by_other}
 use Rattle.tf_board.specs.declared.commands.Command.{Command}
 use Rattle.tf_board.specs.declared.commands.Command.TheVariants as command
 use Rattle.tf_board.specs.declared.commands.JobAction.TheVariants as action
 use Rattle.tf_board.proofs.ClaimLemmas.{claimant_may}
-use Rattle.tf_shared_board.specs.Shared.{command_of, followed_by, made_command}
-use Rattle.tf_shared_board.specs.declared.calls.JobCall.{JobCall}
-use Rattle.tf_shared_board.specs.declared.calls.JobCall.TheVariants as call
+use Rattle.tf_shared_board.specs.Shared.{followed_by, made_command}
+use Rattle.tf_board.specs.declared.calls.JobCall.{JobCall}
+use Rattle.tf_board.specs.declared.calls.JobCall.TheVariants as call
 use Rattle.tf_shared_board.specs.declared.calls.Made.{Made}
 use Rattle.tf_conductor.specs.Rounds.{AreDifferent, IsCallBy, IsConductors, claim_by}
 use Rattle.tf_conductor.specs.Working.{HasClaim}
@@ -36,10 +36,10 @@ followed_on past (m ∷ first) second = followed_on (made_command m ∷ past) fi
 -- a call of another owner isn't what this owner did
 other_call : (owner other : List ℕ) (x : JobCall) (job : ℕ) → IsCallBy other x → other ≢ owner → by_other owner (command_of x job)
 other_call owner other (call.Post name priority details) job is apart = absurd is
-other_call owner other (call.Claim id who) job is apart = λ same. apart (sym is ∙ same)
-other_call owner other (call.Abandon id who) job is apart = λ same. apart (sym is ∙ same)
-other_call owner other (call.Consume id who) job is apart = λ same. apart (sym is ∙ same)
-other_call owner other (call.Trash id who) job is apart = absurd is
+other_call owner other (call.Apply action.Claim id who) job is apart = λ same. apart (sym is ∙ same)
+other_call owner other (call.Apply action.Abandon id who) job is apart = λ same. apart (sym is ∙ same)
+other_call owner other (call.Apply action.Consume id who) job is apart = λ same. apart (sym is ∙ same)
+other_call owner other (call.Apply action.Trash id who) job is apart = absurd is
 
 module _ (owners : List (List ℕ)) (number : ℕ) (owner : List ℕ) (has : slice_get owners number ≡ Some owner) (different : AreDifferent owners) where
   -- what others called since, as commands

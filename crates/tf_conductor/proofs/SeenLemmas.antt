@@ -7,13 +7,14 @@ use Rattle.std.proofs.lemmas.List.Elements.{recursion_from_All}
 use Rattle.tf_desk.specs.State.{DeskState}
 use Rattle.tf_values.specs.declared.value.Val.{Val}
 use Rattle.tf_board.specs.Board.{AreOfBoard, details_in, is_there, LegalJobs, numbered as item_of, jobs_of}
-use Rattle.tf_board.specs.Does.{number_of}
+use Rattle.tf_board.specs.Does.{number_of, job_of}
 use Rattle.tf_board.specs.Seeking.{free_job, details_for}
 use Rattle.tf_board.specs.declared.commands.Command.{Command}
 use Rattle.tf_board.specs.declared.jobs.Job.{Job}
-use Rattle.tf_shared_board.specs.Shared.{carried, numbered, followed_by, job_of, made_command, SharedValue, IsMade}
-use Rattle.tf_shared_board.specs.declared.calls.JobCall.{JobCall}
-use Rattle.tf_shared_board.specs.declared.calls.JobCall.TheVariants as call
+use Rattle.tf_shared_board.specs.Shared.{carried, numbered, followed_by, made_command, SharedValue, IsMade}
+use Rattle.tf_board.specs.declared.calls.JobCall.{JobCall}
+use Rattle.tf_board.specs.declared.calls.JobCall.TheVariants as call
+use Rattle.tf_board.specs.declared.commands.JobAction.TheVariants as action
 use Rattle.tf_shared_board.specs.declared.calls.Made.{Made}
 use Rattle.tf_turnstile.specs.Numbered.{IsLater, NoneBy}
 use Rattle.tf_turnstile.specs.Passes.{TurnstileValue, PassValue}
@@ -66,10 +67,10 @@ details_called owners past m mine = by m.call mine.2
   where
     by : (x : JobCall) → IsCallBy mine.0 x → details_in (made_command (record { number = m.number; job = m.job; call = x }) ∷ past) ≡ details_in past
     by (call.Post name priority details) is = absurd is
-    by (call.Claim id owner) is = append-nil (details_in past)
-    by (call.Abandon id owner) is = append-nil (details_in past)
-    by (call.Consume id owner) is = append-nil (details_in past)
-    by (call.Trash id owner) is = absurd is
+    by (call.Apply action.Claim id owner) is = append-nil (details_in past)
+    by (call.Apply action.Abandon id owner) is = append-nil (details_in past)
+    by (call.Apply action.Consume id owner) is = append-nil (details_in past)
+    by (call.Apply action.Trash id owner) is = absurd is
 
 pub details_stay : (owners : List (List ℕ)) (past : List Command) (calls : List Made) → AllByRecursion (IsConductors owners) calls → details_in (followed_by past calls) ≡ details_in past
 details_stay owners past [] all = refl

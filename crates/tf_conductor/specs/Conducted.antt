@@ -9,9 +9,10 @@ use Rattle.tf_conductor.specs.Conducting.{IsConducting, made_since}
 use Rattle.tf_conductor.specs.Rounds.{AllClaimed, EndsConducting, GiveSame}
 use Rattle.tf_conductor.specs.declared.runners.Ran.{Ran}
 
--- of a shared board, that these conductors worked on it: it was conducted, its commands are legal, each conductor made just its own calls, all jobs
--- that were open have a claim unless it is halted, and the runners are back
-pub record IsConductedBy {K P : Type 0} (state : K → DeskState) (gives : P → Val → Ran → Type 0) (did : P → Option (List (Val × Ran)))
+-- of a shared board, that these conductors worked on it: it was conducted, its commands are legal, each conductor made
+-- just its own calls, all jobs that were open have a claim unless it is halted, and the runners are back
+pub record IsConductedBy {K P : Type 0} (state : K → DeskState) (gives : P → Val → Ran → Type 0)
+    (did : P → Option (List (Val × Ran)))
     (owners : List (List ℕ)) (old new : SharedValue K) (halt : Option BoardHalt) (before after : List P) : Type 0 where
   pub board : IsConducting state (record { begun = old; now = new; owners = owners })
   pub legal : AreOfBoard new.board.past
@@ -21,4 +22,5 @@ pub record IsConductedBy {K P : Type 0} (state : K → DeskState) (gives : P →
       (did (slice_index_or after i d)) (made_since old new) halt
   pub all : halt ≡ None → AllClaimed old.board.past (made_since old new)
   pub count : length after ≡ length before
-  pub same : (i : ℕ) (d : P) → i < length before → GiveSame (gives (slice_index_or before i d)) (gives (slice_index_or after i d))
+  pub same : (i : ℕ) (d : P) → i < length before
+      → GiveSame (gives (slice_index_or before i d)) (gives (slice_index_or after i d))

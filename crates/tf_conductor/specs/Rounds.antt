@@ -12,8 +12,9 @@ use Rattle.tf_board.specs.declared.jobs.Job.{Job}
 use Rattle.tf_shared_board.specs.Shared.{followed_by, made_command}
 use Rattle.tf_shared_board.specs.declared.calls.BoardHalt.{BoardHalt}
 use Rattle.tf_shared_board.specs.declared.calls.BoardHalt.TheVariants as halt
-use Rattle.tf_shared_board.specs.declared.calls.JobCall.{JobCall}
-use Rattle.tf_shared_board.specs.declared.calls.JobCall.TheVariants as call
+use Rattle.tf_board.specs.declared.calls.JobCall.{JobCall}
+use Rattle.tf_board.specs.declared.calls.JobCall.TheVariants as call
+use Rattle.tf_board.specs.declared.commands.JobAction.TheVariants as action
 use Rattle.tf_shared_board.specs.declared.calls.Made.{Made}
 use Rattle.tf_conductor.specs.declared.runners.Ran.{Ran}
 use Rattle.tf_conductor.specs.declared.runners.Ran.TheVariants as ran
@@ -27,10 +28,10 @@ calls_by number calls = filter (λ m. nat_eq m.number number) calls
 -- a claim, a consume or an abandon by this owner
 abbrev pub IsCallBy : List ℕ → JobCall → Type 0
 IsCallBy owner (call.Post name priority details) = ⊥
-IsCallBy owner (call.Claim id who) = who ≡ owner
-IsCallBy owner (call.Abandon id who) = who ≡ owner
-IsCallBy owner (call.Consume id who) = who ≡ owner
-IsCallBy owner (call.Trash id who) = ⊥
+IsCallBy owner (call.Apply action.Claim id who) = who ≡ owner
+IsCallBy owner (call.Apply action.Abandon id who) = who ≡ owner
+IsCallBy owner (call.Apply action.Consume id who) = who ≡ owner
+IsCallBy owner (call.Apply action.Trash id who) = ⊥
 
 -- a call with the number of a conductor, by its owner
 abbrev pub IsConductors : List (List ℕ) → Made → Type 0
@@ -38,12 +39,13 @@ IsConductors owners m = (owner : List ℕ) × (slice_get owners m.number ≡ Som
 
 -- no two owners are the same
 abbrev pub AreDifferent : List (List ℕ) → Type 0
-AreDifferent owners = (i j : ℕ) (owner : List ℕ) → slice_get owners i ≡ Some owner → slice_get owners j ≡ Some owner → i ≡ j
+AreDifferent owners =
+    (i j : ℕ) (owner : List ℕ) → slice_get owners i ≡ Some owner → slice_get owners j ≡ Some owner → i ≡ j
 
 -- how a conductor ends a job for its owner: it is consumed where its run is done, and else abandoned
 abbrev pub end_call : Ran → List ℕ → List ℕ → JobCall
-end_call ran.Done id owner = call.Consume id owner
-end_call ran.Left id owner = call.Abandon id owner
+end_call ran.Done id owner = call.Apply action.Consume id owner
+end_call ran.Left id owner = call.Apply action.Abandon id owner
 
 -- ---- what a runner tells of its runs
 
@@ -58,11 +60,13 @@ told_run told run = told_runs told (run ∷ [])
 
 -- how runs may end is the same of both
 abbrev pub GiveSame : (Val → Ran → Type 0) → (Val → Ran → Type 0) → Type 0
-GiveSame old new = (details : Val) (ran : Ran) → (old details ran → new details ran) × (new details ran → old details ran)
+GiveSame old new =
+    (details : Val) (ran : Ran) → (old details ran → new details ran) × (new details ran → old details ran)
 
 -- ---- rounds
 
--- a job that a conductor claimed and ran: its number, the id by which it was claimed, its details, and how its run ended
+-- a job that a conductor claimed and ran: its number, the id by which it was claimed, its details, and how its run
+-- ended
 pub record Round : Type 0 where
   pub job : ℕ
   pub id : List ℕ
@@ -77,7 +81,7 @@ pub data Begun : Type 0 where
 
 -- the claim of a job
 abbrev pub claim_by : ℕ → List ℕ → ℕ → List ℕ → Made
-claim_by number owner job id = record { number = number; job = job; call = call.Claim id owner }
+claim_by number owner job id = record { number = number; job = job; call = call.Apply action.Claim id owner }
 
 -- the end of the same job
 abbrev pub end_of_round : ℕ → List ℕ → Round → Made
@@ -86,7 +90,8 @@ end_of_round number owner r = record { number = number; job = r.job; call = end_
 -- the calls of rounds: of each the claim, and then the end of that job
 abbrev pub calls_of : ℕ → List ℕ → List Round → List Made
 calls_of number owner [] = []
-calls_of number owner (r ∷ rounds) = claim_by number owner r.job r.id ∷ (end_of_round number owner r ∷ calls_of number owner rounds)
+calls_of number owner (r ∷ rounds) =
+    claim_by number owner r.job r.id ∷ (end_of_round number owner r ∷ calls_of number owner rounds)
 
 -- the call of what is begun: the claim alone
 abbrev pub begun_calls : ℕ → List ℕ → Begun → List Made
@@ -123,9 +128,10 @@ IsBegunRound gives past nothing = Unit {0}
 IsBegunRound gives past (claimed job id details) = details_of past job ≡ Some details
 IsBegunRound gives past (run r) = IsRound gives past r
 
--- a conductor made just the calls of these rounds and of what it has begun, and its runner was asked for just these runs; when the runner
--- had told so, and the commands were these
-pub record HasConducted (gives : Val → Ran → Type 0) (told : Option (List (Val × Ran))) (past : List Command) (number : ℕ) (owner : List ℕ)
+-- a conductor made just the calls of these rounds and of what it has begun, and its runner was asked for just these
+-- runs; when the runner had told so, and the commands were these
+pub record HasConducted (gives : Val → Ran → Type 0) (told : Option (List (Val × Ran))) (past : List Command)
+    (number : ℕ) (owner : List ℕ)
     (did : Option (List (Val × Ran))) (calls : List Made) (begun : Begun) : Type 0 where
   pub rounds : List Round
   pub calls_are : calls_by number calls ≡ calls_of number owner rounds ++ begun_calls number owner begun
@@ -134,7 +140,8 @@ pub record HasConducted (gives : Val → Ran → Type 0) (told : Option (List (V
   pub is_begun : IsBegunRound gives past begun
 
 -- the same in the end: something begun is left only where the board is halted
-pub record EndsConducting (gives : Val → Ran → Type 0) (told : Option (List (Val × Ran))) (past : List Command) (number : ℕ) (owner : List ℕ)
+pub record EndsConducting (gives : Val → Ran → Type 0) (told : Option (List (Val × Ran))) (past : List Command)
+    (number : ℕ) (owner : List ℕ)
     (did : Option (List (Val × Ran))) (calls : List Made) (halt : Option BoardHalt) : Type 0 where
   pub begun : Begun
   pub conducted : HasConducted gives told past number owner did calls begun
@@ -152,10 +159,10 @@ pub record IsUnclaimed (past : List Command) (number : ℕ) : Type 0 where
 -- a call claims something
 abbrev pub is_claim : JobCall → Bool
 is_claim (call.Post name priority details) = false
-is_claim (call.Claim id owner) = true
-is_claim (call.Abandon id owner) = false
-is_claim (call.Consume id owner) = false
-is_claim (call.Trash id owner) = false
+is_claim (call.Apply action.Claim id owner) = true
+is_claim (call.Apply action.Abandon id owner) = false
+is_claim (call.Apply action.Consume id owner) = false
+is_claim (call.Apply action.Trash id owner) = false
 
 -- it is a claim of the job of this number
 abbrev pub claims : ℕ → Made → Bool
@@ -184,7 +191,8 @@ AreNamedBy word owners = (i : ℕ) (owner : List ℕ) → slice_get owners i ≡
 -- these commands, or with them that of one call more of this kind, which a board may hold there
 pub data HoldsTried (kind : Made → Type 0) (past : List Command) (found : Recovered) : Type 0 where
   all_held : Holds past found → HoldsTried kind past found
-  one_more : (m : Made) → kind m → AreOfBoard (made_command m ∷ past) → Holds (made_command m ∷ past) found → HoldsTried kind past found
+  one_more : (m : Made) → kind m → AreOfBoard (made_command m ∷ past) → Holds (made_command m ∷ past) found
+      → HoldsTried kind past found
 
 -- the commands from before followed by those of the first calls, or by one call more
 pub record HoldsSome (kind : Made → Type 0) (past : List Command) (made : List Made) (found : Recovered) : Type 0 where

@@ -1,4 +1,5 @@
--- What one conductor does, turn by turn, and what it knows. Lists of commands have the newest first, lists of calls the oldest.
+-- What one conductor does, turn by turn, and what it knows. Lists of commands have the newest first, lists of calls the
+-- oldest.
 use Rattle.std.specs.Prelude.{◌≡◌, ◌≢◌, ◌⊎◌, ◌==◌, ◌<◌, ℕ, Bool, true, false, List, [], ◌∷◌, ◌++◌, length, map, slice_get, Option, Some, None}
 use Rattle.std.specs.List.{list_any, AllByRecursion}
 use Rattle.tf_values.specs.declared.value.Val.{Val}
@@ -42,7 +43,8 @@ pub record HasTurned (number : ℕ) (old new mine : List Made) : Type 0 where
   pub apart : AllByRecursion (λ m. m.number ≢ number) others
 
 -- the last call is the claim of this job, which its id named then
-pub record HasClaim (past : List Command) (number : ℕ) (owner : List ℕ) (calls : List Made) (job : ℕ) (id : List ℕ) : Type 0 where
+pub record HasClaim (past : List Command) (number : ℕ) (owner : List ℕ) (calls : List Made) (job : ℕ)
+    (id : List ℕ) : Type 0 where
   pub before : List Made
   pub is : calls ≡ before ++ claim_by number owner job id ∷ []
   pub about : job ≡ number_of (followed_by past before) id
@@ -55,7 +57,8 @@ pub record LeavesNoJob (past : List Command) (owners : List (List ℕ)) (skip : 
 
 -- after a turn to claim a job: it was claimed, and its details are these; there was none; or the board is halted
 abbrev pub KnowsNext : List Command → List (List ℕ) → ℕ → List ℕ → List ℕ → List Made → List Made → Next → Type 0
-KnowsNext past owners number owner skip old new next.Stop = HasTurned number old new [] × LeavesNoJob past owners skip new
+KnowsNext past owners number owner skip old new next.Stop =
+    HasTurned number old new [] × LeavesNoJob past owners skip new
 KnowsNext past owners number owner skip old new next.Halt = HasTurned number old new []
 KnowsNext past owners number owner skip old new (next.Run claim) =
     HasTurned number old new (claim_by number owner claim.job claim.id ∷ [])
@@ -66,25 +69,30 @@ KnowsNext past owners number owner skip old new (next.Run claim) =
 abbrev pub round_so : Claim → Ran → Round
 round_so claim r = record { job = claim.job; id = claim.id; details = claim.details; ran = r }
 
--- after a turn to end a job whose run ended so and to claim the next one: it was ended, and then that is known which is known after a turn to
--- claim; or no call was made
-abbrev pub KnowsAfter : List Command → List (List ℕ) → ℕ → List ℕ → Claim → Ran → List ℕ → List Made → List Made → Option Next → Type 0
+-- after a turn to end a job whose run ended so and to claim the next one: it was ended, and then that is known which is
+-- known after a turn to claim; or no call was made
+abbrev pub KnowsAfter : List Command → List (List ℕ) → ℕ → List ℕ → Claim → Ran → List ℕ → List Made → List Made
+    → Option Next → Type 0
 KnowsAfter past owners number owner claim r skip old new None = HasTurned number old new []
 KnowsAfter past owners number owner claim r skip old new (Some result) =
-    (mid : List Made) × HasTurned number old mid (end_of_round number owner (round_so claim r) ∷ []) × KnowsNext past owners number owner skip mid new result
+    (mid : List Made) × HasTurned number old mid (end_of_round number owner (round_so claim r) ∷ [])
+    × KnowsNext past owners number owner skip mid new result
 
 -- the runner was asked for the run of the claimed job, which ended so
-pub record HasRunJob (gives : Val → Ran → Type 0) (claim : Claim) (before after : Option (List (Val × Ran))) (r : Ran) : Type 0 where
+pub record HasRunJob (gives : Val → Ran → Type 0) (claim : Claim) (before after : Option (List (Val × Ran)))
+    (r : Ran) : Type 0 where
   pub given : gives claim.details r
   pub told : after ≡ told_run before (claim.details, r)
 
 -- the claimed job was run and ended
-abbrev pub EndsClaimed : (Val → Ran → Type 0) → ℕ → List ℕ → Claim → Option (List (Val × Ran)) → Option (List (Val × Ran)) → List Made → List Made → Ran → Type 0
+abbrev pub EndsClaimed : (Val → Ran → Type 0) → ℕ → List ℕ → Claim → Option (List (Val × Ran))
+    → Option (List (Val × Ran)) → List Made → List Made → Ran → Type 0
 EndsClaimed gives number owner claim before after old new r =
     HasTurned number old new (end_of_round number owner (round_so claim r) ∷ []) × HasRunJob gives claim before after r
 
 -- no call was made, and the claimed job was perhaps run
-abbrev pub StopsClaimed : (Val → Ran → Type 0) → ℕ → Claim → Option (List (Val × Ran)) → Option (List (Val × Ran)) → List Made → List Made → Type 0
+abbrev pub StopsClaimed : (Val → Ran → Type 0) → ℕ → Claim → Option (List (Val × Ran)) → Option (List (Val × Ran))
+    → List Made → List Made → Type 0
 StopsClaimed gives number claim before after old new =
     HasTurned number old new [] × ((after ≡ before) ⊎ ((r : Ran) × HasRunJob gives claim before after r))
 
@@ -105,9 +113,12 @@ pub record HasMoved (gives : Val → Ran → Type 0) (past : List Command) (numb
 abbrev pub IsSkipping : ℕ → List ℕ → List ℕ → Type 0
 IsSkipping job old new = (new ≡ old) ⊎ (new ≡ old ++ job ∷ [])
 
--- the claimed job was run and ended, and then that is known which is known after a turn to claim; the job may be skipped from then on
-pub record GoesOnFrom (gives : Val → Ran → Type 0) (past : List Command) (owners : List (List ℕ)) (number : ℕ) (owner : List ℕ) (claim : Claim)
-    (before after : Option (List (Val × Ran))) (left_old left_new : List ℕ) (old new : List Made) (result : Next) : Type 0 where
+-- the claimed job was run and ended, and then that is known which is known after a turn to claim; the job may be
+-- skipped from then on
+pub record GoesOnFrom (gives : Val → Ran → Type 0) (past : List Command) (owners : List (List ℕ)) (number : ℕ)
+    (owner : List ℕ) (claim : Claim)
+    (before after : Option (List (Val × Ran))) (left_old left_new : List ℕ) (old new : List Made)
+    (result : Next) : Type 0 where
   pub mid : List Made
   pub r : Ran
   pub ends : EndsClaimed gives number owner claim before after old mid r
@@ -115,18 +126,22 @@ pub record GoesOnFrom (gives : Val → Ran → Type 0) (past : List Command) (ow
   pub knows : KnowsNext past owners number owner left_new mid new result
 
 -- after the run of a claimed job: it goes on, or it stops at a halt
-abbrev pub StepsFrom : (Val → Ran → Type 0) → List Command → List (List ℕ) → ℕ → List ℕ → Claim → Option (List (Val × Ran)) → Option (List (Val × Ran))
+abbrev pub StepsFrom : (Val → Ran → Type 0) → List Command → List (List ℕ) → ℕ → List ℕ → Claim
+    → Option (List (Val × Ran)) → Option (List (Val × Ran))
     → List ℕ → List ℕ → List Made → List Made → Next → Type 0
 StepsFrom gives past owners number owner claim before after left_old left_new old new result =
     GoesOnFrom gives past owners number owner claim before after left_old left_new old new result
     ⊎ ((result ≡ next.Halt) × StopsClaimed gives number claim before after old new)
 
--- what is known of a conductor at the end of a turn: it has ended all that it claimed before, and in this turn it found no job, so that each that was
--- open has a claim; or it stops at a halt; or it has claimed a job
-abbrev pub StandsWith : (Val → Ran → Type 0) → Option (List (Val × Ran)) → List Command → List (List ℕ) → ℕ → List ℕ → Option (List (Val × Ran))
+-- what is known of a conductor at the end of a turn: it has ended all that it claimed before, and in this turn it found
+-- no job, so that each that was open has a claim; or it stops at a halt; or it has claimed a job
+abbrev pub StandsWith : (Val → Ran → Type 0) → Option (List (Val × Ran)) → List Command → List (List ℕ) → ℕ → List ℕ
+    → Option (List (Val × Ran))
     → List ℕ → List Made → Next → Type 0
-StandsWith gives told past owners number owner did left calls next.Stop = HasConducted gives told past number owner did calls nothing × AllClaimed past calls
-StandsWith gives told past owners number owner did left calls next.Halt = (begun : Begun) × HasConducted gives told past number owner did calls begun
+StandsWith gives told past owners number owner did left calls next.Stop =
+    HasConducted gives told past number owner did calls nothing × AllClaimed past calls
+StandsWith gives told past owners number owner did left calls next.Halt =
+    (begun : Begun) × HasConducted gives told past number owner did calls begun
 StandsWith gives told past owners number owner did left calls (next.Run claim) =
     (old : List Made) × HasConducted gives told past number owner did old nothing × AreLeft left old
     × HasTurned number old calls (claim_by number owner claim.job claim.id ∷ [])
@@ -134,8 +149,10 @@ StandsWith gives told past owners number owner did left calls (next.Run claim) =
     × (details_of past claim.job ≡ Some claim.details)
 
 -- after all jobs
-pub record HasWorkedOn {K : Type 0} (turnstile : TurnstileValue (ConductingValue K)) (number : ℕ) (owner : List ℕ) (gives : Val → Ran → Type 0)
-    (before after : Option (List (Val × Ran))) (pass : PassValue (ConductingValue K) Made) (halted : Bool) : Type 0 where
+pub record HasWorkedOn {K : Type 0} (turnstile : TurnstileValue (ConductingValue K)) (number : ℕ) (owner : List ℕ)
+    (gives : Val → Ran → Type 0)
+    (before after : Option (List (Val × Ran))) (pass : PassValue (ConductingValue K) Made)
+    (halted : Bool) : Type 0 where
   pub idle : IsIdle turnstile number pass
   pub begun : Begun
   pub conducted : HasConducted gives before (start_past turnstile) number owner after (seen_calls pass) begun
@@ -145,8 +162,10 @@ pub record HasWorkedOn {K : Type 0} (turnstile : TurnstileValue (ConductingValue
 -- ---- all conductors
 
 module _ {K : Type 0} where
-  -- the turnstile was made as the call began, for these distinct owners, of whom one has this number; and the pass is as it was made
-  pub record IsAppointed (turnstile : TurnstileValue (ConductingValue K)) (owners : List (List ℕ)) (number : ℕ) (pass : PassValue (ConductingValue K) Made) : Type 0 where
+  -- the turnstile was made as the call began, for these distinct owners, of whom one has this number; and the pass is
+  -- as it was made
+  pub record IsAppointed (turnstile : TurnstileValue (ConductingValue K)) (owners : List (List ℕ)) (number : ℕ)
+      (pass : PassValue (ConductingValue K) Made) : Type 0 where
     pub fresh : turnstile.start.now ≡ turnstile.start.begun
     pub apart : AreDifferent turnstile.start.owners
     pub owners_are : owners ≡ turnstile.start.owners
@@ -155,8 +174,10 @@ module _ {K : Type 0} where
     pub made : pass ≡ new_pass turnstile number
 
   -- after all jobs of the conductor of a number
-  pub record HasWorkedAs (turnstile : TurnstileValue (ConductingValue K)) (number : ℕ) (old_gives new_gives : Val → Ran → Type 0)
-      (before after : Option (List (Val × Ran))) (pass : PassValue (ConductingValue K) Made) (halted : Bool) : Type 0 where
+  pub record HasWorkedAs (turnstile : TurnstileValue (ConductingValue K)) (number : ℕ)
+      (old_gives new_gives : Val → Ran → Type 0)
+      (before after : Option (List (Val × Ran))) (pass : PassValue (ConductingValue K) Made)
+      (halted : Bool) : Type 0 where
     pub same : GiveSame old_gives new_gives
     pub worked : (owner : List ℕ) → slice_get turnstile.start.owners number ≡ Some owner
         → HasWorkedOn turnstile number owner old_gives before after pass halted

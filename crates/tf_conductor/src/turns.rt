@@ -9,9 +9,9 @@ use crate::runners::Ran;
 use std::alloc::Global;
 use std::marker::Model;
 use std::snapshot::Snapshot;
-use tf_board::a_free_job_may_be_claimed;
+use tf_board::{JobAction, JobCall, a_free_job_may_be_claimed};
 use tf_desk::Desk;
-use tf_shared_board::{JobCall, Made, SharedBoard};
+use tf_shared_board::{Made, SharedBoard};
 use tf_turnstile::Kept;
 use tf_values::{Name, Names, Val};
 use uuid::Uuid;
@@ -38,8 +38,16 @@ fn ending(id: Uuid, owner: Name, ran: Ran) -> JobCall
     ensures { result ≡ end_call ran id owner }
 {
     match ran {
-        Ran::Done => JobCall::Consume { id, owner },
-        Ran::Left => JobCall::Abandon { id, owner },
+        Ran::Done => JobCall::Apply {
+            action: JobAction::Consume,
+            id,
+            owner,
+        },
+        Ran::Left => JobCall::Apply {
+            action: JobAction::Abandon,
+            id,
+            owner,
+        },
     }
 }
 
@@ -70,7 +78,12 @@ fn claim_next<K: Desk>(
         shared.halt_for_memory();
         return Next::Halt;
     };
-    match shared.call(number, JobCall::Claim { id, owner: *owner }) {
+    let claim = JobCall::Apply {
+        action: JobAction::Claim,
+        id,
+        owner: *owner,
+    };
+    match shared.call(number, claim) {
         Ok(_) => Next::Run(Claim { job, id, details }),
         Err(_) => Next::Halt,
     }

@@ -66,19 +66,21 @@ plain_task number what required symbol constant = record {
   undo = undo.Pass;
 }
 
--- the four tasks that a number may be: it gives its number; it fails before the group's second attempt; it adds its number
--- to that of the attempt; it joins the text x to that
+-- the four tasks that a number may be: it gives its number; it fails before the group's second attempt; it adds its
+-- number to that of the attempt; it joins the text x to that
 abbrev pub echo_task : ℕ → Task
 echo_task number = plain_task number kind.Echo [] (codes "value") (value.Int (pos number))
 
 abbrev pub fail_below_task : ℕ → ℕ → Task
-fail_below_task group number = plain_task number kind.FailBelow (attempt_name group ∷ []) (codes "limit") (value.Int (pos 2))
+fail_below_task group number =
+    plain_task number kind.FailBelow (attempt_name group ∷ []) (codes "limit") (value.Int (pos 2))
 
 abbrev pub sum_task : ℕ → ℕ → Task
 sum_task group number = plain_task number kind.Sum (attempt_name group ∷ []) (codes "k") (value.Int (pos number))
 
 abbrev pub concat_task : ℕ → ℕ → Task
-concat_task group number = plain_task number kind.Concat (attempt_name group ∷ []) (codes "text") (value.Text (codes "x"))
+concat_task group number =
+    plain_task number kind.Concat (attempt_name group ∷ []) (codes "text") (value.Text (codes "x"))
 
 -- the task of a number in a group, by a draw of 4
 abbrev pub task_drawn : ℕ → ℕ → ℕ → Task
@@ -91,7 +93,8 @@ task_drawn group number draw =
 -- so many tasks of a group, from a number on; each draws its kind
 abbrev pub tasks_from : ℕ → ℕ → ℕ → ℕ → List Tree
 tasks_from group zero number state = []
-tasks_from group (suc left) number state = task (task_drawn group number (drawn state % 4)) ∷ tasks_from group left (suc number) (drawn state)
+tasks_from group (suc left) number state =
+    task (task_drawn group number (drawn state % 4)) ∷ tasks_from group left (suc number) (drawn state)
 
 -- ---- groups
 
@@ -107,7 +110,8 @@ retry_of group = record {
 
 -- the kind of a group, by a draw of 3
 abbrev pub pattern_drawn : ℕ → FlowKind
-pattern_drawn draw = if nat_eq draw 0 then pattern.Linear else if nat_eq draw 1 then pattern.Unordered else pattern.Graph
+pattern_drawn draw =
+    if nat_eq draw 0 then pattern.Linear else if nat_eq draw 1 then pattern.Unordered else pattern.Graph
 
 -- how many tasks a group has: those with numbers from ten times its own to nine more that are below the size
 abbrev pub group_size : ℕ → ℕ → ℕ
@@ -116,13 +120,20 @@ group_size size group = min (size - 10 * group) 10
 -- a group: it draws its kind, and then its tasks draw theirs
 abbrev pub group_flow : ℕ → ℕ → ℕ → Tree
 group_flow size group state =
-    flow record { name = group_name group; kind = pattern_drawn (drawn state % 3); retry = Some (retry_of group); links = [] }
+    flow record {
+      name = group_name group;
+      kind = pattern_drawn (drawn state % 3);
+      retry = Some
+          (retry_of group);
+      links = [];
+    }
     (trees_of (tasks_from group (group_size size group) (10 * group) (drawn state)))
 
 -- so many groups, from a number on; each draws on from the state that the one before left
 abbrev pub groups_from : ℕ → ℕ → ℕ → ℕ → List Tree
 groups_from size zero group state = []
-groups_from size (suc left) group state = group_flow size group state ∷ groups_from size left (suc group) (after (1 + group_size size group) state)
+groups_from size (suc left) group state =
+    group_flow size group state ∷ groups_from size left (suc group) (after (1 + group_size size group) state)
 
 -- ---- the flow
 
@@ -132,4 +143,6 @@ group_count size = (size + 9) / 10
 
 -- the generated flow
 unfoldable pub demo_flow : ℕ → ℕ → Tree
-demo_flow seed size = flow record { name = codes "demo"; kind = pattern.Linear; retry = None; links = [] } (trees_of (groups_from size (group_count size) 0 seed))
+demo_flow seed size =
+    flow record { name = codes "demo"; kind = pattern.Linear; retry = None; links = [] }
+    (trees_of (groups_from size (group_count size) 0 seed))

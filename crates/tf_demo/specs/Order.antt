@@ -19,8 +19,8 @@ kinds_in (at_flow level ∷ order) = level.kind ∷ kinds_in order
 kinds_in (at_retry r ∷ order) = kinds_in order
 kinds_in (at_task t ∷ order) = kinds_in order
 
--- the task of a number: it stands in the group of its tens, and one draw was made before it for each task and each group
--- up to its own
+-- the task of a number: it stands in the group of its tens, and one draw was made before it for each task and each
+-- group up to its own
 abbrev pub task_of_number : ℕ → ℕ → Task
 task_of_number seed number = task_drawn (number / 10) number (after (number + number / 10 + 2) seed % 4)
 

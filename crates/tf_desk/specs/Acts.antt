@@ -26,8 +26,11 @@ picked_after (said bytes ∷ past) = picked_after past
 -- the bytes of each file as they read
 abbrev pub files_after : List Act → List ℕ → Option (List ℕ)
 files_after [] name = None
-files_after (picked new ∷ past) name = if pointwise ◌==◌ new name then Some (unwrap_or (files_after past name) []) else files_after past name
-files_after (wrote at bytes ∷ past) name = if names (picked_after past) name then Some (written (unwrap_or (files_after past name) []) at bytes) else files_after past name
+files_after (picked new ∷ past) name =
+    if pointwise ◌==◌ new name then Some (unwrap_or (files_after past name) []) else files_after past name
+files_after (wrote at bytes ∷ past) name =
+    if names (picked_after past) name then Some (written (unwrap_or (files_after past name) []) at bytes)
+    else files_after past name
 files_after (synced ∷ past) name = files_after past name
 files_after (said bytes ∷ past) name = files_after past name
 
@@ -49,30 +52,37 @@ marks_after (said bytes ∷ past) = marks_after past
 
 -- what the desk tells; each act is one step of the clock
 abbrev pub content_after : List Act → Content
-content_after past = record { files = files_after past; picked = picked_after past; clock = length past; marks = marks_after past }
+content_after past =
+    record { files = files_after past; picked = picked_after past; clock = length past; marks = marks_after past }
 
 -- what a crash now may leave of the file of a name: a new file is empty, a write is torn, a sync leaves what is read
 abbrev pub left_after : List Act → List ℕ → List ℕ → Type 0
 left_after [] name image = ⊥
-left_after (picked new ∷ past) name image = left_after past name image ⊎ ((name ≡ new) × (files_after past name ≡ None) × (image ≡ []))
+left_after (picked new ∷ past) name image =
+    left_after past name image ⊎ ((name ≡ new) × (files_after past name ≡ None) × (image ≡ []))
 left_after (wrote at bytes ∷ past) name image =
-    MatchBool (names (picked_after past) name) ((was : List ℕ) × left_after past name was × Torn at (length bytes) was image) (left_after past name image)
-left_after (synced ∷ past) name image = MatchBool (names (picked_after past) name) (files_after past name ≡ Some image) (left_after past name image)
+    MatchBool (names (picked_after past) name)
+    ((was : List ℕ) × left_after past name was × Torn at (length bytes) was image) (left_after past name image)
+left_after (synced ∷ past) name image =
+    MatchBool (names (picked_after past) name) (files_after past name ≡ Some image) (left_after past name image)
 left_after (said bytes ∷ past) name image = left_after past name image
 
 -- a crash after these acts may leave this pair
 abbrev pub leaves_now : List Act → List ℕ → List ℕ → Type 0
 leaves_now past = IsLeftNow (content_after past) (left_after past) (Some (shown_after past))
 
--- a crash inside an act may leave this pair, beside those before it and after it: while bytes are said, a prefix of them
+-- a crash inside an act may leave this pair, beside those before it and after it: while bytes are said, a prefix of
+-- them
 abbrev pub leaves_inside : Act → List Act → List ℕ → List ℕ → Type 0
 leaves_inside (picked name) past image text = ⊥
 leaves_inside (wrote at bytes) past image text = ⊥
 leaves_inside synced past image text = ⊥
-leaves_inside (said bytes) past image text = IsLeft (picked_after past) (left_after past) image × ShowsPrefix (Some (shown_after past)) bytes (Some text)
+leaves_inside (said bytes) past image text =
+    IsLeft (picked_after past) (left_after past) image × ShowsPrefix (Some (shown_after past)) bytes (Some text)
 
 -- a crash at a moment since that one may leave this pair
 abbrev pub crashes_after : List Act → ℕ → List ℕ → List ℕ → Type 0
 crashes_after [] start image text = (start ≤ 0) × leaves_now [] image text
 crashes_after (act ∷ past) start image text =
-    ((start ≤ length past + 1) × leaves_now (act ∷ past) image text) ⊎ (((start ≤ length past) × leaves_inside act past image text) ⊎ crashes_after past start image text)
+    ((start ≤ length past + 1) × leaves_now (act ∷ past) image text)
+    ⊎ (((start ≤ length past) × leaves_inside act past image text) ⊎ crashes_after past start image text)

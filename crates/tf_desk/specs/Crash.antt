@@ -24,7 +24,8 @@ bytes_of content = unwrap_or (option_and_then content.files content.picked) []
 abbrev pub written : List ℕ → ℕ → List ℕ → List ℕ
 written old at bytes = take at old ++ (bytes ++ drop (at + length bytes) old)
 
--- after a write of n bytes that was cut short: any bytes in the range and past the old end, a length between, the rest as before
+-- after a write of n bytes that was cut short: any bytes in the range and past the old end, a length between, the rest
+-- as before
 pub record Torn (at n : ℕ) (old new : List ℕ) : Type 0 where
   pub no_shorter : length old ≤ length new
   pub no_longer : length new ≤ max (length old) (at + n)

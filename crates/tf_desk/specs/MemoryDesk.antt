@@ -34,9 +34,11 @@ state_of held = record {
 abbrev pub acts_of : List Noted → List ℕ → List ℕ → List Act
 acts_of [] written shown = []
 acts_of (Picked name ∷ log) written shown = picked name ∷ acts_of log written shown
-acts_of (Wrote at count ∷ log) written shown = wrote at (drop (length written - count) written) ∷ acts_of log (take (length written - count) written) shown
+acts_of (Wrote at count ∷ log) written shown =
+    wrote at (drop (length written - count) written) ∷ acts_of log (take (length written - count) written) shown
 acts_of (Synced ∷ log) written shown = synced ∷ acts_of log written shown
-acts_of (Said count ∷ log) written shown = said (drop (length shown - count) shown) ∷ acts_of log written (take (length shown - count) shown)
+acts_of (Said count ∷ log) written shown =
+    said (drop (length shown - count) shown) ∷ acts_of log written (take (length shown - count) shown)
 
 -- how many bytes an entry wrote
 abbrev pub written_count : Noted → ℕ

@@ -1,4 +1,5 @@
--- What a desk tells, as one state, and what a call does to it. Each fact of the files, the marks or the crashes holds where the desk tells.
+-- What a desk tells, as one state, and what a call does to it. Each fact of the files, the marks or the crashes holds
+-- where the desk tells.
 use Rattle.std.specs.Prelude.{◌≡◌, ◌≢◌, ◌⊎◌, ℕ, ◌≤◌, Bool, IsTrue, List, [], ◌∷◌, ◌++◌, Option, Some, None, unwrap_or}
 use Rattle.std.proofs.Common.{inl, inr, ⊎_elim, arith}
 use Rattle.tf_numbers.specs.Numbers.{Rises}
@@ -6,8 +7,9 @@ use Rattle.tf_desk.specs.Crash.{Mark, at_pick, at_sync, Content, Torn, bytes_of,
 use Rattle.tf_desk.specs.declared.device.DeskFault.{DeskFault}
 use Rattle.tf_desk.specs.declared.device.DeskFault.TheVariants.{Disk, Out, Memory}
 
--- whether the desk tells; the text shown so far; the files, the picked name, the moment and the marks; what a crash now may leave of the file of
--- each name; what a crash at a moment since another may leave; and how many disk faults, output faults, asks for a stop and questions about one there were
+-- whether the desk tells; the text shown so far; the files, the picked name, the moment and the marks; what a crash now
+-- may leave of the file of each name; what a crash at a moment since another may leave; and how many disk faults,
+-- output faults, asks for a stop and questions about one there were
 pub record DeskState : Type 1 where
   pub tells : Bool
   pub shown : Option (List ℕ)
@@ -51,11 +53,14 @@ SaysPrefix state bytes image text = MayLeave state image × ShowsPrefix state.sh
 
 -- ---- what a call does
 
--- Time goes on: since any moment before, a crash may leave what it might leave then, or a pair that `during` names, and no less.
+-- Time goes on: since any moment before, a crash may leave what it might leave then, or a pair that `during` names, and
+-- no less.
 pub record Passes (during : Pairs) (old new : DeskState) : Type 0 where
   pub later : old.content.clock ≤ new.content.clock
-  pub since : (start : ℕ) (image text : List ℕ) → start ≤ old.content.clock → new.crashes start image text → old.crashes start image text ⊎ during image text
-  pub keeps : (start : ℕ) (image text : List ℕ) → start ≤ old.content.clock → old.crashes start image text → new.crashes start image text
+  pub since : (start : ℕ) (image text : List ℕ) → start ≤ old.content.clock → new.crashes start image text
+      → old.crashes start image text ⊎ during image text
+  pub keeps : (start : ℕ) (image text : List ℕ) → start ≤ old.content.clock → old.crashes start image text
+      → new.crashes start image text
 
 -- a call of the disk: nothing is shown, and no count but that of disk faults changes; marks are added at the end alone
 pub record OnDisk (during : Pairs) (old new : DeskState) : Type 0 where
@@ -68,7 +73,8 @@ pub record OnDisk (during : Pairs) (old new : DeskState) : Type 0 where
   pub marks : IsTrue old.tells → (more : List Mark) × (new.content.marks ≡ old.content.marks ++ more)
   pub crash : IsTrue old.tells → Passes during old new
 
--- what each call keeps, of any layer: no count falls, marks are added at the end alone, and a crash leaves what it might or what `during` names
+-- what each call keeps, of any layer: no count falls, marks are added at the end alone, and a crash leaves what it
+-- might or what `during` names
 pub record Extends (during : Pairs) (old new : DeskState) : Type 0 where
   pub tells : new.tells ≡ old.tells
   pub disk_faults : old.disk_faults ≤ new.disk_faults
@@ -103,11 +109,13 @@ pub record GoesOn (during : Pairs) (old new : DeskState) : Type 0 where
   pub on_disk : OnDisk during old new
   pub files : IsTrue old.tells → OthersStay old new
 
--- a write of n bytes at that offset, whole or cut short: the picked file reads as torn there, and a crash leaves it torn there
+-- a write of n bytes at that offset, whole or cut short: the picked file reads as torn there, and a crash leaves it
+-- torn there
 pub record Tears (at n : ℕ) (old new : DeskState) : Type 0 where
   pub marks : new.content.marks ≡ old.content.marks
   pub bytes : Torn at n (bytes_now old) (bytes_now new)
-  pub left : (name image : List ℕ) → old.content.picked ≡ Some name → new.left name image → (was : List ℕ) × old.left name was × Torn at n was image
+  pub left : (name image : List ℕ) → old.content.picked ≡ Some name → new.left name image → (was : List ℕ)
+      × old.left name was × Torn at n was image
   pub left_others : (name image : List ℕ) → old.content.picked ≢ Some name → new.left name image → old.left name image
 
 -- a sync that answered Ok: it is marked, and a crash now leaves what is read
@@ -166,9 +174,11 @@ pub record PicksNone (name : List ℕ) (old new : DeskState) : Type 0 where
 -- of each file a crash leaves nothing that it couldn't leave before, but for no bytes of that file where it was missing
 abbrev pub LeavesMade : List ℕ → DeskState → DeskState → Type 0
 LeavesMade name old new =
-    (other image : List ℕ) → new.left other image → old.left other image ⊎ ((other ≡ name) × (old.content.files other ≡ None) × (image ≡ []))
+    (other image : List ℕ) → new.left other image → old.left other image
+    ⊎ ((other ≡ name) × (old.content.files other ≡ None) × (image ≡ []))
 
--- calls that may say, ask, and write to the picked file alone: no count falls, marks are added at the end alone, the same file stays picked, and the others don't change
+-- calls that may say, ask, and write to the picked file alone: no count falls, marks are added at the end alone, the
+-- same file stays picked, and the others don't change
 pub record Continues (old new : DeskState) : Type 0 where
   pub extends : Extends anything old new
   pub files : IsTrue old.tells → OthersStay old new
@@ -198,20 +208,30 @@ FailsToPick Memory old new = Unit {0}
 
 -- before any call
 pub passes_none : {during : Pairs} {old : DeskState} → Passes during old old
-passes_none = record { later = omega arith; since = λ start image text le left. inl left; keeps = λ start image text le left. left }
+passes_none =
+    record {
+      later = omega arith;
+      since = λ start image text le left. inl left;
+      keeps =
+          λ start image text le left. left;
+    }
 
 -- one call after another, where what each may leave has one property
 pub passes_on : {first second during : Pairs} {old mid new : DeskState} → Passes first old mid → Passes second mid new
-    → ((image text : List ℕ) → first image text → during image text) → ((image text : List ℕ) → second image text → during image text)
+    → ((image text : List ℕ) → first image text → during image text)
+    → ((image text : List ℕ) → second image text → during image text)
     → Passes during old new
 passes_on a b from_first from_second = record {
   later = omega (arith, a.later, b.later);
   since = λ start image text le left.
       ⊎_elim
-      (λ earlier. ⊎_elim (λ old. inl old) (λ in_first. inr (from_first image text in_first)) (a.since start image text le earlier))
+      (λ earlier. ⊎_elim (λ old. inl old) (λ in_first. inr (from_first image text in_first))
+      (a.since start image text le earlier))
       (λ in_second. inr (from_second image text in_second))
       (b.since start image text (omega (arith, le, a.later)) left);
-  keeps = λ start image text le left. b.keeps start image text (omega (arith, le, a.later)) (a.keeps start image text le left);
+  keeps =
+      λ start image text le left. b.keeps start image text (omega (arith, le, a.later))
+      (a.keeps start image text le left);
 }
 
 -- what may be left has a wider property too
@@ -219,13 +239,17 @@ pub passes_within : {narrow during : Pairs} {old new : DeskState} → Passes nar
     → ((image text : List ℕ) → narrow image text → during image text) → Passes during old new
 passes_within a within = record {
   later = a.later;
-  since = λ start image text le left. ⊎_elim (λ old. inl old) (λ new. inr (within image text new)) (a.since start image text le left);
+  since =
+      λ start image text le left. ⊎_elim (λ old. inl old) (λ new. inr (within image text new))
+      (a.since start image text le left);
   keeps = a.keeps;
 }
 
 -- a property of all that a crash since a start may leave goes on through a call
-pub passes_since : {during property : Pairs} {old new : DeskState} {start : ℕ} → Passes during old new → start ≤ old.content.clock
-    → ((image text : List ℕ) → old.crashes start image text → property image text) → ((image text : List ℕ) → during image text → property image text)
+pub passes_since : {during property : Pairs} {old new : DeskState} {start : ℕ} → Passes during old new
+    → start ≤ old.content.clock
+    → ((image text : List ℕ) → old.crashes start image text → property image text)
+    → ((image text : List ℕ) → during image text → property image text)
     → (image text : List ℕ) → new.crashes start image text → property image text
 passes_since a le old new image text left =
     ⊎_elim (λ earlier. old image text earlier) (λ now_left. new image text now_left) (a.since _ image text le left)

@@ -17,13 +17,15 @@ abbrev pub IsMovedTo : Option ℕ → Option ℕ → ℕ → Type 0
 IsMovedTo before moved at = IfSome before (λ position. moved ≡ Some at)
 
 -- the stream was moved to that offset, and the bytes were appended to what it held there
-pub record WritesAt {F : Type 0} (position : F → Option ℕ) (contents : F → Option (List ℕ)) (old new : F) (at : ℕ) (bytes : List ℕ) : Type 0 where
+pub record WritesAt {F : Type 0} (position : F → Option ℕ) (contents : F → Option (List ℕ)) (old new : F) (at : ℕ)
+    (bytes : List ℕ) : Type 0 where
   pub moved : F
   pub offset : IsMovedTo (position old) (position moved) at
   pub appended : Appends (contents moved) (contents new) bytes
 
 -- the stream was moved to that offset, and n bytes were taken from what it had left there
-pub record ReadsAt {F : Type 0} (position : F → Option ℕ) (remaining : F → Option (List ℕ)) (old new : F) (at : ℕ) (buffer : List ℕ) (n : ℕ) : Type 0 where
+pub record ReadsAt {F : Type 0} (position : F → Option ℕ) (remaining : F → Option (List ℕ)) (old new : F) (at : ℕ)
+    (buffer : List ℕ) (n : ℕ) : Type 0 where
   pub moved : F
   pub offset : IsMovedTo (position old) (position moved) at
   pub taken : ReadsOn (remaining moved) (remaining new) buffer n

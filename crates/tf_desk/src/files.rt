@@ -1,21 +1,44 @@
-ghost use Rattle.std.specs.Prelude.{◌≡◌, ◌≤◌, IsErrOf, IfErr};
+ghost use Rattle.std.specs.Prelude.{◌≡◌, ◌≤◌, Some, IsErrOf, IfErr};
 ghost use Rattle.std.proofs.lemmas.Bool.{false≢true};
 ghost use Rattle.tf_numbers.specs.Numbers.{Rises};
-ghost use Rattle.tf_desk.specs.FileDesk.{counts_alone};
+ghost use Rattle.tf_desk.specs.FileDesk.{without_content, said_in};
 
 use crate::device::{Desk, DeskFault};
 use crate::reasons::tell_reason;
-use crate::streams::{end_of, read_at, write_at, write_whole};
+use crate::streams::{end_of, read_at, say_whole, write_at};
 use std::alloc::Global;
 use std::fs::{self, File, OpenFile, OpenOptions, TryLockError};
 use std::io::{self, Eprint, Error, ErrorKind};
+use std::os::unix::fs::OpenOptionsExt;
 use std::path::Path;
-use std::rt::Files;
-use std::time::SystemTime;
+use std::rt::{Clock, Files};
+use std::thread;
+use std::time::{Duration, SystemTime};
+use tf_trace::Trace;
 use tf_values::Text;
 
 /// What is opened so that no book takes the place of a standard stream that was closed before.
 const NOTHING: &str = "/dev/null";
+
+/// The mode of a file that is made: what it holds is for its owner alone. The umask applies.
+const MODE: u32 = 0o600;
+
+/// How often a lock is tried before it is refused, and how long it is waited between: two seconds in all, since the
+/// lock of a program that was killed may outlive it for a moment.
+const LOCK_TRIES: u32 = 200;
+
+const LOCK_PAUSE_IN_MILLISECONDS: u64 = 10;
+
+/// What the files of a command are picked for.
+#[derive(Clone, Copy, Debug, PartialEq, Eq)]
+pub enum Access {
+    /// To be read: a file is opened for reading alone, and one that isn't there reads as empty and isn't made.
+    Read,
+    /// To be read, and written where it has to be made first: its lock is taken at the first write.
+    Share,
+    /// To be written: its lock is taken when it is picked.
+    Own,
+}
 
 /// Three open files. The system gives a file the least free number, so the standard streams' numbers are
 /// taken while these are open.
@@ -41,15 +64,21 @@ struct Picked {
     file: File,
     seen: Seen,
     owned: bool,
+    /// Whether this desk has written to it, so that it needn't be as it was seen any more.
+    written: bool,
+    /// Whether there is no file of that path, and nothing to be synced.
+    absent: bool,
 }
 
-/// The real desk, over files and standard output: a name is a path. It tells its counts alone. Its first
-/// write to a picked file takes the file's lock and keeps it until another file is picked; where another
-/// has the lock, or the file isn't as it was picked, the write is refused as `Disk` and changes nothing. Of each
-/// call that fails the system's reason is said on standard error.
+/// The real desk, over files and standard output: a name is a path. It tells its counts, and as its shown text what it
+/// wrote to standard output, by the list of its calls; of its files it tells nothing. A file that is picked to be
+/// written is locked from then on, until another file is picked; one that is shared from the first write on. A lock
+/// that another program has is waited for two seconds, and then refused as `Disk`. So is the first write to a file that
+/// isn't as it was picked, and changes nothing. Of each call that fails the system's reason is said on standard error.
 #[derive(Drop)]
 pub struct FileDesk<R: Files> {
     runtime: R,
+    access: Access,
     taken: Option<Taken<R::File>>,
     picked: Option<Picked>,
     stop: Option<String>,
@@ -57,13 +86,15 @@ pub struct FileDesk<R: Files> {
     out_faults: u64,
     asks: u64,
     turns: u64,
+    trace: Trace,
 }
 
 impl<R: Files> FileDesk<R> {
-    /// A desk with no file and no fault so far.
-    pub fn make(runtime: R) -> FileDesk<R> {
+    /// A desk with no file and no fault so far, whose files are picked for this.
+    pub fn make(runtime: R, access: Access) -> FileDesk<R> {
         FileDesk {
             runtime,
+            access,
             taken: None,
             picked: None,
             stop: None,
@@ -71,6 +102,7 @@ impl<R: Files> FileDesk<R> {
             out_faults: 0,
             asks: 0,
             turns: 0,
+            trace: Trace::new(),
         }
     }
 
@@ -133,7 +165,7 @@ fn open_file<R: Files<File = File>>(runtime: &R, path: &str) -> io::Result<File>
     how.read(true).write(true);
     match how.open(runtime, path) {
         Err(error) if error.kind() == ErrorKind::NotFound => {
-            how.create_new(true);
+            how.create_new(true).mode(MODE);
             let file = match how.open(runtime, path) {
                 // Another program made it meanwhile.
                 Err(error) if error.kind() == ErrorKind::AlreadyExists => {
@@ -149,6 +181,27 @@ fn open_file<R: Files<File = File>>(runtime: &R, path: &str) -> io::Result<File>
     }
 }
 
+/// The folder that the path stands in.
+fn open_folder<R: Files>(runtime: &R, path: &str) -> io::Result<R::File> {
+    match Path::new(path).parent() {
+        Some(folder) if !folder.as_str().is_empty() => fs::open(runtime, folder),
+        _ => fs::open(runtime, "."),
+    }
+}
+
+/// The file of that path, to be read alone, and whether it is absent from its folder: then it reads as empty, and isn't
+/// made.
+fn open_to_read<R: Files<File = File>>(runtime: &R, path: &str) -> io::Result<(File, bool)> {
+    match fs::open(runtime, path) {
+        Ok(file) => Ok((file, false)),
+        Err(error) if error.kind() == ErrorKind::NotFound => {
+            open_folder(runtime, path)?;
+            Ok((fs::open(runtime, NOTHING)?, true))
+        }
+        Err(error) => Err(error),
+    }
+}
+
 /// What is seen of a file now.
 fn look_at(file: &File) -> io::Result<Seen> {
     let metadata = file.metadata()?;
@@ -158,52 +211,84 @@ fn look_at(file: &File) -> io::Result<Seen> {
     })
 }
 
+/// Takes the file's lock. `Err`: another program has it, and has had it for two seconds.
+fn take_lock<R: Clock>(runtime: &R, file: &File) -> io::Result<()> {
+    for _ in 0..LOCK_TRIES {
+        match file.try_lock() {
+            Ok(()) => return Ok(()),
+            Err(TryLockError::WouldBlock) => {
+                thread::sleep(runtime, Duration::from_millis(LOCK_PAUSE_IN_MILLISECONDS));
+            }
+            Err(TryLockError::Error(reason)) => return Err(reason),
+        }
+    }
+    Err(Error::other("another program writes it"))
+}
+
 /// The file of that path, as it was seen before anything was read of it.
-fn pick_file<R: Files<File = File>>(runtime: &R, path: String) -> io::Result<Picked> {
-    let file = open_file(runtime, path.as_str())?;
+fn pick_file<R: Files<File = File> + Clock>(
+    runtime: &R,
+    path: String,
+    access: Access,
+) -> io::Result<Picked> {
+    let (file, absent) = match access {
+        Access::Read => open_to_read(runtime, path.as_str())?,
+        Access::Share | Access::Own => (open_file(runtime, path.as_str())?, false),
+    };
+    let owned = access == Access::Own;
+    if owned {
+        take_lock(runtime, &file)?;
+    }
     let seen = look_at(&file)?;
     Ok(Picked {
         path,
         file,
         seen,
-        owned: false,
+        owned,
+        written: false,
+        absent,
     })
 }
 
-/// Takes the file's lock before the first write. `Err`: another has it, or the file isn't as it was picked.
-fn own(picked: &mut Picked) -> io::Result<()> {
-    if picked.owned {
+/// Sees before the first write that the file is this desk's, and as it was picked.
+fn own<R: Clock>(runtime: &R, picked: &mut Picked) -> io::Result<()> {
+    if picked.written {
         return Ok(());
     }
-    match picked.file.try_lock() {
-        Ok(()) => {}
-        Err(TryLockError::WouldBlock) => {
-            return Err(Error::other("another program writes it"));
-        }
-        Err(TryLockError::Error(reason)) => return Err(reason),
+    if !picked.owned {
+        take_lock(runtime, &picked.file)?;
+        picked.owned = true;
     }
     let seen = look_at(&picked.file)?;
     if seen != picked.seen {
-        let _ = picked.file.unlock();
         return Err(Error::other("it was changed since it was read"));
     }
-    picked.owned = true;
+    picked.written = true;
     Ok(())
 }
 
 /// Writes to a file that this desk owns, or owns from now on.
-fn write_owned(picked: &mut Picked, at: u64, bytes: &[u8]) -> io::Result<()> {
-    own(picked)?;
+fn write_owned<R: Clock>(
+    runtime: &R,
+    picked: &mut Picked,
+    at: u64,
+    bytes: &[u8],
+) -> io::Result<()> {
+    own(runtime, picked)?;
     write_at(&mut picked.file, at, bytes)
+}
+
+/// Puts what was written to the file on the disk; of an absent one there is nothing.
+fn sync(picked: &Picked) -> io::Result<()> {
+    if picked.absent {
+        return Ok(());
+    }
+    picked.file.sync_data()
 }
 
 /// Syncs the folder that the path stands in.
 fn sync_folder<R: Files>(runtime: &R, path: &str) -> io::Result<()> {
-    let folder = match Path::new(path).parent() {
-        Some(folder) if !folder.as_str().is_empty() => fs::open(runtime, folder)?,
-        _ => fs::open(runtime, ".")?,
-    };
-    folder.sync_all()
+    open_folder(runtime, path)?.sync_all()
 }
 
 /// A path that is kept.
@@ -229,10 +314,11 @@ fn stop_path(alloc: Global, path: &str) -> Result<String, DeskFault>
     }
 }
 
-impl<R: Files<File = File> + Print + Eprint + Drop> Desk for FileDesk<R> {
-    ghost state = { λ desk. counts_alone desk.disk_faults desk.out_faults desk.asks desk.turns };
+impl<R: Files<File = File> + Clock + Print + Eprint + Drop> Desk for FileDesk<R> {
+    ghost state = { λ desk. without_content
+        (Some (said_in desk.trace.calls)) desk.disk_faults desk.out_faults desk.asks desk.turns };
 
-    ghost tells_shown = { λ desk told. told };
+    ghost tells_shown = { λ desk told. absurd (false≢true told) };
 
     ghost picked_is_there = { λ desk name told. absurd (false≢true told) };
 
@@ -258,7 +344,9 @@ impl<R: Files<File = File> + Print + Eprint + Drop> Desk for FileDesk<R> {
                 Err(reason) => return self.pick_fault(NOTHING, &reason),
             }
         }
-        match pick_file(&self.runtime, kept) {
+        // The file that was picked before is another program's to take, and may be this very one.
+        self.picked = None;
+        match pick_file(&self.runtime, kept, self.access) {
             Ok(picked) => {
                 self.picked = Some(picked);
                 self.stop = Some(stop);
@@ -292,7 +380,7 @@ impl<R: Files<File = File> + Print + Eprint + Drop> Desk for FileDesk<R> {
 
     fn write_at(&mut self, at: u64, bytes: &[u8]) -> Result<(), DeskFault> {
         let reason = match &mut self.picked {
-            Some(picked) => match write_owned(picked, at, bytes) {
+            Some(picked) => match write_owned(&self.runtime, picked, at, bytes) {
                 Ok(()) => return Ok(()),
                 Err(reason) => reason,
             },
@@ -303,7 +391,7 @@ impl<R: Files<File = File> + Print + Eprint + Drop> Desk for FileDesk<R> {
 
     fn sync(&mut self) -> Result<(), DeskFault> {
         let reason = match &self.picked {
-            Some(picked) => match picked.file.sync_data() {
+            Some(picked) => match sync(picked) {
                 Ok(()) => return Ok(()),
                 Err(reason) => reason,
             },
@@ -313,7 +401,7 @@ impl<R: Files<File = File> + Print + Eprint + Drop> Desk for FileDesk<R> {
     }
 
     fn say(&mut self, bytes: &[u8]) -> Result<(), DeskFault> {
-        match write_whole(&mut io::writer(&self.runtime), bytes) {
+        match say_whole(&self.runtime, &mut self.trace, bytes) {
             Ok(()) => Ok(()),
             Err(reason) => {
                 // Who reads the output may have enough of it, as `head` has.

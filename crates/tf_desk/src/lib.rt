@@ -11,7 +11,7 @@ mod streams;
 
 pub use crashing::Torn;
 pub use device::{Desk, DeskFault};
-pub use files::FileDesk;
+pub use files::{Access, FileDesk};
 pub use memory::MemoryDesk;
 pub use reasons::tell_reason;
 pub use streams::{read_on, write_whole};

@@ -1,9 +1,11 @@
 //! What a desk over real files does, over any reader, writer and stream.
 ghost use Rattle.std.specs.Prelude.{◌≡◌, ◌≤◌, length, IfSome, IfOk, OnOk};
 ghost use Rattle.std.specs.Io.KnownBytes.{Appends};
+ghost use Rattle.tf_desk.specs.FileDesk.{said_in, SaysSome};
 ghost use Rattle.tf_desk.specs.Streams.{AppendsPrefix, ReadsOn, WritesAt, ReadsAt};
 
-use std::io::{self, Error, ErrorKind, Read, Seek, SeekFrom, Write};
+use std::io::{self, Error, ErrorKind, Print, Read, Seek, SeekFrom, Write};
+use tf_trace::Trace;
 
 /// Whether the call was interrupted, and is to be tried again.
 fn is_interrupted(error: &Error) -> bool {
@@ -85,4 +87,30 @@ pub fn end_of<F: Seek>(file: &mut F) -> io::Result<u64>
         (λ _. IfSome (F.stream_bytes file.old) (λ bytes. size ≡ length bytes))) }
 {
     file.seek(SeekFrom::End(0))
+}
+
+/// Writes the bytes to standard output, in as many writes as it takes; an interrupted one is tried again.
+/// `Err`: a write failed or took nothing, and a prefix of the bytes was written.
+pub fn say_whole<P: Print>(out: &P, trace: &mut Trace, bytes: &[u8]) -> io::Result<()>
+    ensures { SaysSome bytes.now result (said_in trace.old.calls) (said_in trace.new.calls) }
+{
+    let mut done = 0;
+    for _ in 0..u64::MAX {
+        if done >= bytes.len() {
+            return Ok(());
+        }
+        match out.write_some(&bytes[done..]) {
+            Ok(0) => return Err(Error::from(ErrorKind::WriteZero)),
+            Ok(n) => {
+                trace.said(&bytes[done..done + n]);
+                done += n;
+            }
+            Err(error) => {
+                if !is_interrupted(&error) {
+                    return Err(error);
+                }
+            }
+        }
+    }
+    Err(Error::from(ErrorKind::Interrupted))
 }

@@ -1,4 +1,5 @@
--- A book of several flows: which elements it may hold, the bodies that they have in its file, and which body can't come next.
+-- A book of several flows: which elements it may hold, the bodies that they have in its file, and which body can't come
+-- next.
 use Rattle.std.specs.Prelude.{◌≡◌, ◌≢◌, ◌<◌, ◌≤◌, ◌+◌, ◌^◌, ℕ, List, [], ◌∷◌, ◌++◌, length, Bool, Option, None, Some, nat_eq, if◌then◌else◌, position, slice_get, map}
 use Rattle.std.specs.List.{AllByRecursion}
 use Rattle.tf_states.specs.declared.record.Entry.{Entry}
@@ -34,8 +35,8 @@ IsAcceptedPlan plan = first_refusal plan.root plan.store ≡ None
 abbrev pub CanRun : PlanValue → Type 0
 CanRun plan = (compile_refusal plan ≡ None) × (missing_symbol (outline_of plan) ≡ None)
 
--- a history that a book may hold: its plan is within every limit and rule, has a form that can be read again, and can run; and each
--- entry has such a form, and may follow those before it
+-- a history that a book may hold: its plan is within every limit and rule, has a form that can be read again, and can
+-- run; and each entry has such a form, and may follow those before it
 pub record IsHistoryOf (plan : PlanValue) (past : List Entry) : Type 0 where
   pub accepted : IsAcceptedPlan plan
   pub limits : IsPlan plan
@@ -54,11 +55,13 @@ AreEntriesOf plan entries = AllByRecursion (IsEntryOf plan) entries
 -- the body is no plan's form, or that of a plan that can't run
 pub data IsNoPlan (body : List ℕ) : Type 0 where
   no_form : ((plan : PlanValue) → IsAcceptedPlan plan → KeepsLimits plan → plan_bytes plan ≢ body) → IsNoPlan body
-  no_run : (plan : PlanValue) → IsAcceptedPlan plan → IsPlan plan → plan_bytes plan ≡ body → ¬ (CanRun plan) → IsNoPlan body
+  no_run : (plan : PlanValue) → IsAcceptedPlan plan → IsPlan plan → plan_bytes plan ≡ body → ¬ (CanRun plan)
+      → IsNoPlan body
 
 -- no entry of the plan that may follow the history has this form
 abbrev pub IsNoStep : PlanValue → List Entry → List ℕ → Type 0
-IsNoStep plan past body = (e : Entry) → IsEntryOf plan e → Step (outline_of plan) (snapshot (outline_of plan) past) e → entry_bytes e ≢ body
+IsNoStep plan past body =
+    (e : Entry) → IsEntryOf plan e → Step (outline_of plan) (snapshot (outline_of plan) past) e → entry_bytes e ≢ body
 
 -- ---- elements, and what a list of them tells; lists are written with the newest element first, as histories are
 
@@ -113,8 +116,8 @@ book_size (element ∷ before) = book_size before + 5 + length (element_bytes el
 
 -- ---- which elements may stand after others
 
--- a new detail: its plan is within every limit and rule, has a form that can be read again, and can run; there are fewer than 64
--- details, and none of them has its name
+-- a new detail: its plan is within every limit and rule, has a form that can be read again, and can run; there are
+-- fewer than 64 details, and none of them has its name
 pub record MayBegin (before : List Element) (plan : PlanValue) : Type 0 where
   pub accepted : IsAcceptedPlan plan
   pub limits : IsPlan plan
@@ -122,7 +125,8 @@ pub record MayBegin (before : List Element) (plan : PlanValue) : Type 0 where
   pub few : length (details before) < 64
   pub unnamed : number_among (details before) (detail_name plan) ≡ None
 
--- an entry: there is a detail of its number, of whose plan it may follow the history, and it has a form that can be read again
+-- an entry: there is a detail of its number, of whose plan it may follow the history, and it has a form that can be
+-- read again
 pub record MayFollow (before : List Element) (number : ℕ) (e : Entry) : Type 0 where
   pub plan : PlanValue
   pub of_detail : plan_of before number ≡ Some plan
@@ -140,22 +144,27 @@ IsLegalBook (element ∷ before) = MayStand before element × IsLegalBook before
 
 -- ---- which bodies can't come next
 
--- the form is that of no detail that may begin: of no plan that can run, or there are 64 details, or one of them has its name
+-- the form is that of no detail that may begin: of no plan that can run, or there are 64 details, or one of them has
+-- its name
 pub data IsNoDetail (before : List Element) (form : List ℕ) : Type 0 where
   no_plan : IsNoPlan form → IsNoDetail before form
   too_many : 64 ≤ length (details before) → IsNoDetail before form
   name_taken : (plan : PlanValue) → IsAcceptedPlan plan → IsPlan plan → plan_bytes plan ≡ form
       → number_among (details before) (detail_name plan) ≢ None → IsNoDetail before form
 
--- the form is that of no entry of this number that may follow: there is no such detail, or the entry may not follow its history
+-- the form is that of no entry of this number that may follow: there is no such detail, or the entry may not follow its
+-- history
 pub data IsNoEntry (before : List Element) (number : ℕ) (form : List ℕ) : Type 0 where
   no_detail : plan_of before number ≡ None → IsNoEntry before number form
-  no_step : (plan : PlanValue) → plan_of before number ≡ Some plan → IsNoStep plan (history number before) form → IsNoEntry before number form
+  no_step : (plan : PlanValue) → plan_of before number ≡ Some plan → IsNoStep plan (history number before) form
+      → IsNoEntry before number form
 
--- the body is that of no element that may stand: it begins with no head, or what stands behind its head is no such detail or entry
+-- the body is that of no element that may stand: it begins with no head, or what stands behind its head is no such
+-- detail or entry
 pub data IsNoElement (before : List Element) (body : List ℕ) : Type 0 where
   no_head : ((first : Head) → BeginsWith body first → ⊥) → IsNoElement before body
-  bad_detail : (form : List ℕ) → body ≡ head_bytes head.Detail ++ form → IsNoDetail before form → IsNoElement before body
+  bad_detail : (form : List ℕ) → body ≡ head_bytes head.Detail ++ form → IsNoDetail before form
+      → IsNoElement before body
   bad_entry : (number : ℕ) (form : List ℕ) → number < 2 ^ 16 → body ≡ head_bytes (head.Entry number) ++ form
       → IsNoEntry before number form → IsNoElement before body
 

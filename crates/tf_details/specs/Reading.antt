@@ -24,10 +24,12 @@ plans_in machines = map plan_in machines
 abbrev pub is_named : List ℕ → MachineValue → Bool
 is_named name machine = has_name name machine.plan
 
--- a machine for each detail of the book, in the order of their numbers: it has the detail's plan, and stands for the detail's history
+-- a machine for each detail of the book, in the order of their numbers: it has the detail's plan, and stands for the
+-- detail's history
 pub record AreMachinesOf (machines : List MachineValue) (book : List Element) : Type 0 where
   pub plans : plans_in machines ≡ details book
-  pub stand : (number : ℕ) (d : MachineValue) → number < length machines → StandsFor (slice_index_or machines number d) (history number book)
+  pub stand : (number : ℕ) (d : MachineValue) → number < length machines
+      → StandsFor (slice_index_or machines number d) (history number book)
 
 -- just these bodies were read: they are those of a legal book, of which the machines are
 pub record HasReplayed (machines : List MachineValue) (bodies : List (List ℕ)) : Type 0 where
@@ -40,9 +42,10 @@ pub record HasReplayed (machines : List MachineValue) (bodies : List (List ℕ))
 abbrev pub elements_in : {H : Type 0} → Gathering H → List Element
 elements_in gathering = elements_shown gathering.marks.items
 
--- just these bodies were read: they are those of a legal book, whose elements are marked and of which the machines are; and the history of one detail was
--- gathered, as what keeps it tells
-pub record HasGathered {H : Type 0} (keeps : H → List Entry → Type 0) (gathering : Gathering H) (bodies : List (List ℕ)) : Type 0 where
+-- just these bodies were read: they are those of a legal book, whose elements are marked and of which the machines are;
+-- and the history of one detail was gathered, as what keeps it tells
+pub record HasGathered {H : Type 0} (keeps : H → List Entry → Type 0) (gathering : Gathering H)
+    (bodies : List (List ℕ)) : Type 0 where
   pub legal : IsLegalBook (elements_in gathering)
   pub bodies_are : bodies ≡ bodies_of (elements_in gathering)
   pub machines_are : AreMachinesOf gathering.details (elements_in gathering)
@@ -72,7 +75,8 @@ pub record HasTaken (old new : List MachineValue) (number : ℕ) (e : Entry) : T
   pub machine : MachineValue
   pub replaced : new ≡ slice_set old number machine
   pub plan : (d : MachineValue) → machine.plan ≡ (slice_index_or old number d).plan
-  pub stands : (d : MachineValue) (past : List Entry) → StandsFor (slice_index_or old number d) past → StandsFor machine (e ∷ past)
+  pub stands : (d : MachineValue) (past : List Entry) → StandsFor (slice_index_or old number d) past
+      → StandsFor machine (e ∷ past)
 
 -- the same while the history of one detail is gathered: the new detail is marked
 pub record HasGatheredDetail {H : Type 0} (old new : Gathering H) (form : List ℕ) : Type 0 where
@@ -83,11 +87,13 @@ pub record HasGatheredDetail {H : Type 0} (old new : Gathering H) (form : List �
   pub room : vec_capacity old.marks ≤ vec_capacity new.marks
 
 -- and the entry is, and one of that detail is kept
-pub record HasGatheredEntry {H : Type 0} (keeps : H → List Entry → Type 0) (old new : Gathering H) (number : ℕ) (form : List ℕ) : Type 0 where
+pub record HasGatheredEntry {H : Type 0} (keeps : H → List Entry → Type 0) (old new : Gathering H) (number : ℕ)
+    (form : List ℕ) : Type 0 where
   pub e : Entry
   pub read : IsReadEntry old.details number form e
   pub taken : HasTaken old.details new.details number e
   pub marked : elements_in new ≡ entry number e ∷ elements_in old
   pub same : new.number ≡ old.number
-  pub kept : (past : List Entry) → keeps old.kept past → keeps new.kept (if nat_eq number old.number then e ∷ past else past)
+  pub kept : (past : List Entry) → keeps old.kept past
+      → keeps new.kept (if nat_eq number old.number then e ∷ past else past)
   pub room : vec_capacity old.marks ≤ vec_capacity new.marks

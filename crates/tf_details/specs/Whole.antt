@@ -11,11 +11,14 @@ AreNumbered [] = Unit {0}
 AreNumbered (detail plan ∷ before) = AreNumbered before
 AreNumbered (entry number e ∷ before) = (number < length (details before)) × AreNumbered before
 
--- each detail's plan can run, and its history is legal; there are 64 details at most, no two of one name; and each entry names a detail before it
+-- each detail's plan can run, and its history is legal; there are 64 details at most, no two of one name; and each
+-- entry names a detail before it
 pub record IsLegalAsAWhole (book : List Element) : Type 0 where
-  pub histories : (number : ℕ) (plan : PlanValue) → plan_of book number ≡ Some plan → IsHistoryOf plan (history number book)
+  pub histories : (number : ℕ) (plan : PlanValue) → plan_of book number ≡ Some plan
+      → IsHistoryOf plan (history number book)
   pub few : length (details book) ≤ 64
-  pub names : (i j : ℕ) (p q : PlanValue) → plan_of book i ≡ Some p → plan_of book j ≡ Some q → detail_name p ≡ detail_name q → i ≡ j
+  pub names : (i j : ℕ) (p q : PlanValue) → plan_of book i ≡ Some p → plan_of book j ≡ Some q
+      → detail_name p ≡ detail_name q → i ≡ j
   pub numbered : AreNumbered book
 
 -- ---- books that tell the same

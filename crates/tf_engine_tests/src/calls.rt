@@ -5,6 +5,7 @@ ghost use Rattle.tf_hands.specs.Hands.{task_of};
 ghost use Rattle.tf_model.specs.Steps.{is_free};
 
 use crate::books::{RETRIED, run_of};
+use crate::crews::{Hand, local_hand};
 use std::alloc::Global;
 use std::process::Abort;
 use std::test::Fail;
@@ -13,9 +14,7 @@ use tf_book::{Book, Entered, Turn};
 use tf_desk::{Desk, MemoryDesk};
 use tf_engines::{How, RunEnd, interleaved};
 use tf_hands::hands_are_free_or_have_a_task;
-use tf_ports::MemorySpawner;
 use tf_states::{Failure, FlowState};
-use tf_tasks::LocalHand;
 use tf_values::{Text, Val};
 
 /// Whether the book's session was entered.
@@ -219,13 +218,8 @@ fn one_resolution_covers_the_failures_of_two_hands(rt: HostRuntime) -> Result<()
     Ok(())
 }
 
-/// A hand of this process.
-fn local_hand(alloc: Global) -> LocalHand<MemorySpawner> {
-    LocalHand::make(MemorySpawner::make(alloc, Vec::new(alloc), Vec::new(alloc)))
-}
-
-/// Two of them.
-fn two_hands(alloc: Global) -> Result<Vec<LocalHand<MemorySpawner>>, Fail>
+/// Two hands of this process.
+fn two_hands(alloc: Global) -> Result<Vec<Hand>, Fail>
     ensures { IfOk result (λ hands. vec_len hands ≡ 2) }
 {
     let mut hands = Vec::new(alloc);

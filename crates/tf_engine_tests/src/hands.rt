@@ -3,6 +3,7 @@ ghost use Rattle.tf_actions.specs.Gives.{Gives};
 ghost use Rattle.tf_tasks.specs.GivesLaws.{gives_looks_up, gives_reverts};
 
 use crate::books::{ONE_TASK, ONE_TASK_BOOK, TWO_ECHOES, desk, opened, run_of};
+use crate::crews::{Hand, local_hand};
 use std::alloc::Global;
 use std::sync::atomic::{AtomicU64, Ordering};
 use std::sync::{Arc, Wait};
@@ -13,9 +14,7 @@ use tf_actions::{Order, Outcome, Performer};
 use tf_book::{Book, Halt};
 use tf_desk::{Desk, MemoryDesk};
 use tf_engines::{How, RunEnd, parallel};
-use tf_ports::MemorySpawner;
 use tf_states::FlowState;
-use tf_tasks::LocalHand;
 use tf_values::Memory;
 
 /// How many turns a hand waits at most for another one.
@@ -25,7 +24,7 @@ const TURNS: u64 = 1_000_000_000;
 /// it answers for want of memory.
 #[derive(Drop)]
 struct Meeting {
-    hand: LocalHand<MemorySpawner>,
+    hand: Hand,
     begun: Arc<AtomicU64, Global>,
     wanted: u64,
     turns: u64,
@@ -76,9 +75,8 @@ fn hand(
     wanted: u64,
     turns: u64,
 ) -> Result<Meeting, Fail> {
-    let spawner = MemorySpawner::make(alloc, Vec::new(alloc), Vec::new(alloc));
     Ok(Meeting {
-        hand: LocalHand::make(spawner),
+        hand: local_hand(alloc),
         begun: Arc::try_clone(begun)?,
         wanted,
         turns,

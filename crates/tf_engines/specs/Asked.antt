@@ -8,14 +8,17 @@ use Rattle.tf_engines.specs.declared.engine.How.TheVariants as how
 abbrev pub told_all : Option (List Order) → List Order → Option (List Order)
 told_all told orders = option_map (λ (before : List Order). before ++ orders) told
 
--- since the start, when it had been told these and the history asked for these: it was given the orders of all starts since, in order, each once
-pub record HasDone (told : Option (List Order)) (base : List Order) (did : Option (List Order)) (asked : List Order) : Type 0 where
+-- since the start, when it had been told these and the history asked for these: it was given the orders of all starts
+-- since, in order, each once
+pub record HasDone (told : Option (List Order)) (base : List Order) (did : Option (List Order))
+    (asked : List Order) : Type 0 where
   pub done : List Order
   pub since : asked ≡ base ++ done
   pub is : did ≡ told_all told done
 
 -- the same, but that the order of the last start may be missing
-pub record HasDoneAllButOne (told : Option (List Order)) (base : List Order) (did : Option (List Order)) (asked : List Order) : Type 0 where
+pub record HasDoneAllButOne (told : Option (List Order)) (base : List Order) (did : Option (List Order))
+    (asked : List Order) : Type 0 where
   pub done : List Order
   pub missing : List Order
   pub one : length missing ≤ 1
@@ -23,7 +26,8 @@ pub record HasDoneAllButOne (told : Option (List Order)) (base : List Order) (di
   pub is : did ≡ told_all told done
 
 -- the same, where that of the last start is this order, and is still to be given
-pub record HasToDo (told : Option (List Order)) (base : List Order) (did : Option (List Order)) (asked : List Order) (next : Order) : Type 0 where
+pub record HasToDo (told : Option (List Order)) (base : List Order) (did : Option (List Order)) (asked : List Order)
+    (next : Order) : Type 0 where
   pub done : List Order
   pub since : asked ≡ base ++ (done ++ next ∷ [])
   pub is : did ≡ told_all told done

@@ -26,7 +26,8 @@ use Rattle.tf_book.specs.Book.{BookValue, outline}
 -- each end among the entries recorded after a history carries an outcome that the order of its start may have
 abbrev pub AreGiven : (Order → Outcome → Type 0) → Outline → List Entry → List Entry → Type 0
 AreGiven gives plan before [] = Unit {0}
-AreGiven gives plan before (e ∷ entries) = IsGiven gives plan (entries ++ before) e.what × AreGiven gives plan before entries
+AreGiven gives plan before (e ∷ entries) =
+    IsGiven gives plan (entries ++ before) e.what × AreGiven gives plan before entries
 
 -- one of so many hands recorded it: hands are numbered from 0
 abbrev pub is_of : ℕ → Entry → Bool
@@ -50,27 +51,32 @@ winds_up plan (what.Atom a state held) = is_over state && is_task plan a
 winds_up plan (what.Resolve named resolved) = false
 winds_up plan (what.Restart again) = false
 
--- each entry of a session that begins to suspend the flow stands where a stop was asked for, or where the limit of entries is reached
+-- each entry of a session that begins to suspend the flow stands where a stop was asked for, or where the limit of
+-- entries is reached
 abbrev pub AreDue : Type 0 → Option ℕ → List Entry → Type 0
 AreDue asked limit [] = Unit {0}
-AreDue asked limit (e ∷ entries) = (suspends e.what ≡ true → asked ⊎ (is_reached limit (length entries) ≡ true)) × AreDue asked limit entries
+AreDue asked limit (e ∷ entries) =
+    (suspends e.what ≡ true → asked ⊎ (is_reached limit (length entries) ≡ true)) × AreDue asked limit entries
 
 -- each entry of a session that stands where the limit is reached winds it up, but for so many with which it was entered
 abbrev pub AreWithin : Outline → Option ℕ → ℕ → List Entry → Type 0
 AreWithin plan limit entered [] = Unit {0}
 AreWithin plan limit entered (e ∷ entries) =
-    (entered ≤ length entries → is_reached limit (length entries) ≡ true → winds_up plan e.what ≡ true) × AreWithin plan limit entered entries
+    (entered ≤ length entries → is_reached limit (length entries) ≡ true → winds_up plan e.what ≡ true)
+    × AreWithin plan limit entered entries
 
--- the session ends with the flow's suspension, which some hand recorded, since a stop was asked for or the limit is reached
+-- the session ends with the flow's suspension, which some hand recorded, since a stop was asked for or the limit is
+-- reached
 pub record IsSuspended (asked : Type 0) (limit : Option ℕ) (entries : List Entry) : Type 0 where
   pub cause : asked ⊎ (is_reached limit (length entries) ≡ true)
   pub hand : ℕ
   pub before : List Entry
   pub last : entries ≡ by_hand hand (what.Flow flow.Suspended) ∷ before
 
--- a session was recorded by so many hands, with outcomes that they gave, and was suspended only where a stop was asked for or its limit
--- is reached; it stopped in this state, or was halted before
-pub record IsSession (gives : Order → Outcome → Type 0) (asked : Type 0) (number : ℕ) (limit : Option ℕ) (plan : Outline) (before after : List Entry) (stop : Option FlowState) : Type 0 where
+-- a session was recorded by so many hands, with outcomes that they gave, and was suspended only where a stop was asked
+-- for or its limit is reached; it stopped in this state, or was halted before
+pub record IsSession (gives : Order → Outcome → Type 0) (asked : Type 0) (number : ℕ) (limit : Option ℕ)
+    (plan : Outline) (before after : List Entry) (stop : Option FlowState) : Type 0 where
   pub entries : List Entry
   pub recorded : after ≡ entries ++ before
   pub session : Session plan before entries stop
@@ -80,11 +86,16 @@ pub record IsSession (gives : Order → Outcome → Type 0) (asked : Type 0) (nu
   pub within : AreWithin plan limit (length (entering (flow_of before))) entries
   pub suspended : stop ≡ Some flow.Suspended → IsSuspended asked limit entries
 
--- the same where the state in which it stopped is told by the answer; one that was halted may have stopped too, in its last line
-abbrev pub HasRun : (Order → Outcome → Type 0) → Type 0 → ℕ → Option ℕ → Outline → List Entry → List Entry → How → Type 0
-HasRun gives asked number limit plan before after (how.Ended state) = IsSession gives asked number limit plan before after (Some state)
-HasRun gives asked number limit plan before after how.Suspended = IsSession gives asked number limit plan before after (Some flow.Suspended)
-HasRun gives asked number limit plan before after (how.Halted cause) = (stop : Option FlowState) × IsSession gives asked number limit plan before after stop
+-- the same where the state in which it stopped is told by the answer; one that was halted may have stopped too, in its
+-- last line
+abbrev pub HasRun : (Order → Outcome → Type 0) → Type 0 → ℕ → Option ℕ → Outline → List Entry → List Entry → How
+    → Type 0
+HasRun gives asked number limit plan before after (how.Ended state) =
+    IsSession gives asked number limit plan before after (Some state)
+HasRun gives asked number limit plan before after how.Suspended =
+    IsSession gives asked number limit plan before after (Some flow.Suspended)
+HasRun gives asked number limit plan before after (how.Halted cause) =
+    (stop : Option FlowState) × IsSession gives asked number limit plan before after stop
 
 -- the answer is how the book stands: halted for that cause; or not halted, with the flow in that last state
 abbrev pub StandsAs : Option Halt → FlowState → How → Type 0
@@ -98,9 +109,10 @@ pub record HaltsAs (halted : Option Halt) (answer : How) : Type 0 where
   pub is : halted ≡ Some cause
   pub told : answer ≡ how.Halted cause
 
--- a run goes on after it was entered: all that it recorded since is within the session, and nobody suspended it; the book has the
--- session's limit
-pub record IsUnderWay (gives : Order → Outcome → Type 0) (number : ℕ) (limit : Option ℕ) (plan : Outline) (before past : List Entry) (kept : Option ℕ) : Type 0 where
+-- a run goes on after it was entered: all that it recorded since is within the session, and nobody suspended it; the
+-- book has the session's limit
+pub record IsUnderWay (gives : Order → Outcome → Type 0) (number : ℕ) (limit : Option ℕ) (plan : Outline)
+    (before past : List Entry) (kept : Option ℕ) : Type 0 where
   pub inner : List Entry
   pub recorded : past ≡ inner ++ (reverse (entering (flow_of before)) ++ before)
   pub inside : list_all is_inner_entry inner ≡ true
@@ -112,7 +124,8 @@ pub record IsUnderWay (gives : Order → Outcome → Type 0) (number : ℕ) (lim
   pub limited : kept ≡ limit_from limit (length before)
 
 -- the same of all that a session recorded before its last entry, in which it may have begun to be suspended
-pub record Winds (gives : Order → Outcome → Type 0) (asked : Type 0) (number : ℕ) (limit : Option ℕ) (plan : Outline) (before past : List Entry) : Type 0 where
+pub record Winds (gives : Order → Outcome → Type 0) (asked : Type 0) (number : ℕ) (limit : Option ℕ) (plan : Outline)
+    (before past : List Entry) : Type 0 where
   pub inner : List Entry
   pub recorded : past ≡ inner ++ (reverse (entering (flow_of before)) ++ before)
   pub inside : list_all is_inner_entry inner ≡ true
@@ -121,13 +134,19 @@ pub record Winds (gives : Order → Outcome → Type 0) (asked : Type 0) (number
   pub hands : list_all (is_of number) (inner ++ reverse (entering (flow_of before))) ≡ true
   pub due : AreDue asked limit (inner ++ reverse (entering (flow_of before)))
   pub within : AreWithin plan limit (length (entering (flow_of before))) (inner ++ reverse (entering (flow_of before)))
-  pub cause : flow_of past ≡ flow.Suspending → asked ⊎ (is_reached limit (length (inner ++ reverse (entering (flow_of before)))) ≡ true)
+  pub cause : flow_of past ≡ flow.Suspending → asked
+      ⊎ (is_reached limit (length (inner ++ reverse (entering (flow_of before)))) ≡ true)
 
--- how a session stands between two turns: it goes on in RUNNING, it is wound up in SUSPENDING, or it has stopped in a last state
-pub data StandsBetween (gives : Order → Outcome → Type 0) (asked : Type 0) (number : ℕ) (limit : Option ℕ) (plan : Outline) (before past : List Entry) (kept : Option ℕ) : Type 0 where
-  going_on : flow_of past ≡ flow.Running → IsUnderWay gives number limit plan before past kept → StandsBetween gives asked number limit plan before past kept
-  winding : flow_of past ≡ flow.Suspending → Winds gives asked number limit plan before past → StandsBetween gives asked number limit plan before past kept
-  stopped : is_last (flow_of past) ≡ true → IsSession gives asked number limit plan before past (Some (flow_of past)) → StandsBetween gives asked number limit plan before past kept
+-- how a session stands between two turns: it goes on in RUNNING, it is wound up in SUSPENDING, or it has stopped in a
+-- last state
+pub data StandsBetween (gives : Order → Outcome → Type 0) (asked : Type 0) (number : ℕ) (limit : Option ℕ)
+    (plan : Outline) (before past : List Entry) (kept : Option ℕ) : Type 0 where
+  going_on : flow_of past ≡ flow.Running → IsUnderWay gives number limit plan before past kept
+      → StandsBetween gives asked number limit plan before past kept
+  winding : flow_of past ≡ flow.Suspending → Winds gives asked number limit plan before past
+      → StandsBetween gives asked number limit plan before past kept
+  stopped : is_last (flow_of past) ≡ true → IsSession gives asked number limit plan before past (Some (flow_of past))
+      → StandsBetween gives asked number limit plan before past kept
 
 -- between two turns of the one hand: the book isn't halted, the flow is RUNNING, and nothing is in flight
 pub record IsBetweenTurns (plan : Outline) (past : List Entry) (halted : Option Halt) : Type 0 where
@@ -135,7 +154,8 @@ pub record IsBetweenTurns (plan : Outline) (past : List Entry) (halted : Option 
   pub running : flow_of past ≡ flow.Running
   pub still : is_still plan (snapshot plan past) ≡ true
 
--- while the one hand performs its order: the book isn't halted, the flow is RUNNING, and this order alone is in flight, whole
+-- while the one hand performs its order: the book isn't halted, the flow is RUNNING, and this order alone is in flight,
+-- whole
 pub record IsPerforming (plan : Outline) (past : List Entry) (halted : Option Halt) (order : Order) : Type 0 where
   pub sound : halted ≡ None
   pub running : flow_of past ≡ flow.Running
@@ -145,9 +165,10 @@ pub record IsPerforming (plan : Outline) (past : List Entry) (halted : Option Ha
 
 -- ---- which entry a session couldn't record
 
--- a session of so many hands may record the entry after the history: one of them does, with an outcome that its order may have, and the flow
--- hasn't ended
-pub record MayRecord (gives : Order → Outcome → Type 0) (number : ℕ) (plan : Outline) (past : List Entry) (e : Entry) : Type 0 where
+-- a session of so many hands may record the entry after the history: one of them does, with an outcome that its order
+-- may have, and the flow hasn't ended
+pub record MayRecord (gives : Order → Outcome → Type 0) (number : ℕ) (plan : Outline) (past : List Entry)
+    (e : Entry) : Type 0 where
   pub given : IsGiven gives plan past e.what
   pub hand : is_of number e ≡ true
   pub unended : has_ended (flow_of past) ≡ false

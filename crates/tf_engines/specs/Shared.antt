@@ -1,4 +1,5 @@
--- A book that several hands share, and what its type keeps since the session's start. Histories have the newest entry first.
+-- A book that several hands share, and what its type keeps since the session's start. Histories have the newest entry
+-- first.
 use Rattle.std.specs.Prelude.{◌≡◌, ℕ, ◌≤◌, Bool, true, false, List, [], ◌∷◌, ◌++◌, not, reverse, Option}
 use Rattle.std.specs.List.{list_all}
 use Rattle.tf_desk.specs.State.{DeskState}
@@ -14,7 +15,8 @@ use Rattle.tf_book.specs.SessionInvariant.{SessionInvariant}
 use Rattle.tf_turnstile.specs.Passes.{TurnstileValue, PassValue}
 use Rattle.tf_engines.specs.Runs.{MightRecord, StandsBetween}
 
--- the book before it was entered, and the book now; the session's limit of entries, if it has one; and how many hands there are
+-- the book before it was entered, and the book now; the session's limit of entries, if it has one; and how many hands
+-- there are
 pub record SharedValue (K : Type 0) : Type 0 where
   pub start : BookValue K
   pub now : BookValue K
@@ -68,13 +70,16 @@ pub record IsJustEntered {K : Type 0} (s : SharedValue K) : Type 0 where
   pub still : is_still (outline s.start) (snapshot (outline s.start) s.now.past) ≡ true
 
 module _ {K : Type 0} (state : K → DeskState) (gives : Order → Outcome → Type 0) where
-  -- since the session's start: to every earlier start to which the book had kept it still keeps; the plan stays; where the disk or a full
-  -- journal halted it, the entry that couldn't be recorded was one that may be; the count of stops didn't fall; the session stands as one of its hands with outcomes that they may give; and nobody resumes in it
+  -- since the session's start: to every earlier start to which the book had kept it still keeps; the plan stays; where
+  -- the disk or a full journal halted it, the entry that couldn't be recorded was one that may be; the count of stops
+  -- didn't fall; the session stands as one of its hands with outcomes that they may give; and nobody resumes in it
   pub record IsShared (s : SharedValue K) : Type 0 where
     pub keeps : (earlier : BookValue K) → SessionInvariant state earlier s.start → SessionInvariant state earlier s.now
     pub plan : s.now.plan ≡ s.start.plan
     pub failed : MightRecord gives s.number s.now
     pub asks : (state s.start.journal.desk).asks ≤ (state s.now.journal.desk).asks
-    pub stands : StandsBetween gives (Rises (state s.start.journal.desk).asks (state s.now.journal.desk).asks) s.number s.limit (outline s.start) s.start.past s.now.past s.now.limit
+    pub stands : StandsBetween gives
+        (Rises (state s.start.journal.desk).asks (state s.now.journal.desk).asks) s.number s.limit
+        (outline s.start) s.start.past s.now.past s.now.limit
     pub inside : IsInside s.start.past s.now.past
     pub number : s.number ≤ 64

@@ -20,7 +20,8 @@ use Rattle.tf_engines.specs.Working.{IsAdded, IsHeldByOther, HasDoneSo}
 
 -- of so many hands, from turn 0 on: the pick modulo their number, and after the picks one after another from hand 0
 abbrev pub hand_at : List ℕ → ℕ → ℕ → ℕ
-hand_at picks count turn = if nat_lt turn (length picks) then slice_index_or picks turn 0 % count else (turn - length picks) % count
+hand_at picks count turn =
+    if nat_lt turn (length picks) then slice_index_or picks turn 0 % count else (turn - length picks) % count
 
 -- ---- turns
 
@@ -29,8 +30,8 @@ abbrev pub HasSeat : Outline → List Entry → ℕ → Option Order → Type 0
 HasSeat plan past hand None = is_free plan (snapshot plan past) hand ≡ true
 HasSeat plan past hand (Some order) = HasOrder plan past hand order × IsWhole order
 
--- what a turn makes of it: the hand takes an order up, or ends the task of the one that it had; it has none before and after it only while a
--- task is in flight with another hand
+-- what a turn makes of it: the hand takes an order up, or ends the task of the one that it had; it has none before and
+-- after it only while a task is in flight with another hand
 abbrev pub HasMovedOn : Outline → List Entry → ℕ → Option Order → Option Order → Type 0
 HasMovedOn plan after hand None (Some next) = Unit {0}
 HasMovedOn plan after hand (Some order) None = Unit {0}
@@ -49,7 +50,9 @@ pub record IsTurnBy (plan : Outline) (hand : ℕ) (past after : List Entry) : Ty
 -- so many turns, each by the hand whose turn it is
 abbrev pub AreTurns : Outline → List ℕ → ℕ → ℕ → List Entry → List Entry → Type 0
 AreTurns plan picks count zero past after = after ≡ past
-AreTurns plan picks count (suc turns) past after = (between : List Entry) × AreTurns plan picks count turns past between × IsTurnBy plan (hand_at picks count turns) between after
+AreTurns plan picks count (suc turns) past after =
+    (between : List Entry) × AreTurns plan picks count turns past between
+    × IsTurnBy plan (hand_at picks count turns) between after
 
 -- turns were taken until the run stopped; in the last one, too, what was recorded is by the hand whose turn it is
 pub record TakesTurns (plan : Outline) (picks : List ℕ) (count : ℕ) (past after : List Entry) : Type 0 where
@@ -112,11 +115,15 @@ abbrev pub AreSeated : Outline → List Entry → List (Option Order) → Type 0
 AreSeated plan past seats = (i : ℕ) → HasSeat plan past i (slice_index_or seats i None)
 
 -- each was given the orders of its starts, but for the one that is kept for it
-abbrev pub AllGiven : {H : Type 0} → (H → Option (List Order)) → Outline → List Entry → (ℕ → Option (List Order)) → (ℕ → List Order) → List H → List (Option Order) → Type 0
+abbrev pub AllGiven : {H : Type 0} → (H → Option (List Order)) → Outline → List Entry → (ℕ → Option (List Order))
+    → (ℕ → List Order) → List H → List (Option Order) → Type 0
 AllGiven {H} did plan past told base hands seats =
-    (i : ℕ) (d : H) → i < length hands → HasGiven (told i) (base i) (did (slice_index_or hands i d)) (orders plan i past) (slice_index_or seats i None)
+    (i : ℕ) (d : H) → i < length hands → HasGiven (told i) (base i) (did (slice_index_or hands i d))
+    (orders plan i past) (slice_index_or seats i None)
 
 -- in the end: where a hand failed, the last order of each may be missing
-abbrev pub AllDone : {H : Type 0} → (H → Option (List Order)) → Outline → List Entry → Bool → (ℕ → Option (List Order)) → (ℕ → List Order) → List H → Type 0
+abbrev pub AllDone : {H : Type 0} → (H → Option (List Order)) → Outline → List Entry → Bool → (ℕ → Option (List Order))
+    → (ℕ → List Order) → List H → Type 0
 AllDone {H} did plan past failed told base hands =
-    (i : ℕ) (d : H) → i < length hands → HasDoneSo failed (told i) (base i) (did (slice_index_or hands i d)) (orders plan i past)
+    (i : ℕ) (d : H) → i < length hands → HasDoneSo failed (told i) (base i) (did (slice_index_or hands i d))
+    (orders plan i past)

@@ -50,8 +50,8 @@ pub record IsHeldByOther (plan : Outline) (past : List Entry) (hand : ℕ) : Typ
   pub held : hand_of plan past task ≡ Some other
   pub apart : other ≢ hand
 
--- what it knows then: it has the order that it performs; it waits with nothing in flight, while a task is in flight with another hand; or it
--- stops where the flow has a last state
+-- what it knows then: it has the order that it performs; it waits with nothing in flight, while a task is in flight
+-- with another hand; or it stops where the flow has a last state
 abbrev pub HasNext : Outline → List Entry → ℕ → Next → Type 0
 HasNext plan past hand (next.Perform order) = HasOrder plan past hand order × IsWhole order
 HasNext plan past hand next.Wait = (is_free plan (snapshot plan past) hand ≡ true) × IsHeldByOther plan past hand
@@ -66,7 +66,8 @@ HasDoneNext told base did asked next.Stop = HasDone told base did asked
 HasDoneNext told base did asked next.Fail = HasDoneAllButOne told base did asked
 
 -- the outcome is one that may be given for the order that the hand has
-pub record HasOutcome (gives : Order → Outcome → Type 0) (plan : Outline) (past : List Entry) (hand : ℕ) (came : Outcome) : Type 0 where
+pub record HasOutcome (gives : Order → Outcome → Type 0) (plan : Outline) (past : List Entry) (hand : ℕ)
+    (came : Outcome) : Type 0 where
   pub order : Order
   pub has : HasOrder plan past hand order
   pub gave : gives order came
@@ -86,15 +87,19 @@ module _ {K : Type 0} where
     pub few : turnstile.start.number ≤ 64
 
   -- the hand has its pass, and nothing in flight in the history that this has seen
-  pub record IsReadyToTurn (turnstile : TurnstileValue (SharedValue K)) (hand : ℕ) (pass : PassValue (SharedValue K) Entry) : Type 0 where
+  pub record IsReadyToTurn (turnstile : TurnstileValue (SharedValue K)) (hand : ℕ)
+      (pass : PassValue (SharedValue K) Entry) : Type 0 where
     pub idle : IsIdle turnstile hand pass
-    pub free : is_free (outline turnstile.start.start) (snapshot (outline turnstile.start.start) (seen_past turnstile pass)) hand ≡ true
+    pub free : is_free (outline turnstile.start.start)
+        (snapshot (outline turnstile.start.start) (seen_past turnstile pass)) hand ≡ true
 
-  -- the hand has stopped: it was given the orders of its starts, where it failed perhaps but the last; and where it didn't fail, the flow had a
-  -- last state
-  pub record HasWorked (turnstile : TurnstileValue (SharedValue K)) (hand : ℕ) (old new : PassValue (SharedValue K) Entry) (did_old did_new : Option (List Order)) (failed : Bool) : Type 0 where
+  -- the hand has stopped: it was given the orders of its starts, where it failed perhaps but the last; and where it
+  -- didn't fail, the flow had a last state
+  pub record HasWorked (turnstile : TurnstileValue (SharedValue K)) (hand : ℕ)
+      (old new : PassValue (SharedValue K) Entry) (did_old did_new : Option (List Order)) (failed : Bool) : Type 0 where
     pub idle : IsIdle turnstile hand new
-    pub asked : (told : Option (List Order)) (base : List Order) → HasDone told base did_old (orders (outline turnstile.start.start) hand (seen_past turnstile old))
+    pub asked : (told : Option (List Order)) (base : List Order)
+        → HasDone told base did_old (orders (outline turnstile.start.start) hand (seen_past turnstile old))
         → HasDoneSo failed told base did_new (orders (outline turnstile.start.start) hand (seen_past turnstile new))
     pub last : failed ≡ false → is_last (flow_of (seen_past turnstile new)) ≡ true
 
@@ -107,5 +112,6 @@ module _ {K : Type 0} (state : K → DeskState) (gives : Order → Outcome → T
     pub stops : StandsAs now.halt (flow_of now.past) how
     pub plan : now.plan ≡ start.plan
     pub failed : start.halt ≡ None → MightRecord gives number now
-    pub ran : HasRun gives (Rises (state start.journal.desk).asks (state now.journal.desk).asks) number limit (outline start) start.past now.past how
+    pub ran : HasRun gives (Rises (state start.journal.desk).asks (state now.journal.desk).asks) number limit
+        (outline start) start.past now.past how
     pub asks : (state start.journal.desk).asks ≤ (state now.journal.desk).asks

@@ -29,10 +29,15 @@ read_truth (n ∷ rest) = numbered (truth_of n) rest
 -- ---- what tasks and retry controllers have alike
 
 abbrev pub read_arg : List ℕ → Option (Arg × List ℕ)
-read_arg bytes = chain (read_name bytes) (λ name rest. chain (read_name rest) (λ symbol after. Some (record { name = name; symbol = symbol }, after)))
+read_arg bytes =
+    chain (read_name bytes)
+    (λ name rest. chain (read_name rest) (λ symbol after. Some (record { name = name; symbol = symbol }, after)))
 
 abbrev pub read_bind : List ℕ → Option (Bind × List ℕ)
-read_bind bytes = chain (read_name bytes) (λ symbol rest. chain (read_value rest) (λ value after. Some (record { symbol = symbol; value = value }, after)))
+read_bind bytes =
+    chain (read_name bytes)
+    (λ symbol rest. chain (read_value rest)
+    (λ value after. Some (record { symbol = symbol; value = value }, after)))
 
 unfoldable pub read_words : List ℕ → Option (List (List ℕ) × List ℕ)
 read_words = read_list read_text
@@ -120,7 +125,9 @@ read_task bytes =
 
 -- so many attempts
 abbrev pub read_times : List ℕ → Option (RetryKind × List ℕ)
-read_times bytes = chain (read_number w16 bytes) (λ attempts rest. chain (read_truth rest) (λ all after. Some (retry.Times attempts all, after)))
+read_times bytes =
+    chain (read_number w16 bytes)
+    (λ attempts rest. chain (read_truth rest) (λ all after. Some (retry.Times attempts all, after)))
 
 -- the scalars of a value that is a list
 abbrev pub scalars_in : Val → List ℕ → Option (List Scalar × List ℕ)
@@ -133,7 +140,9 @@ read_values bytes = chain (read_value bytes) scalars_in
 
 -- an attempt for each of these values
 abbrev pub read_for_each : List ℕ → Option (RetryKind × List ℕ)
-read_for_each bytes = chain (read_values bytes) (λ values rest. chain (read_truth rest) (λ all after. Some (retry.ForEach values all, after)))
+read_for_each bytes =
+    chain (read_values bytes)
+    (λ values rest. chain (read_truth rest) (λ all after. Some (retry.ForEach values all, after)))
 
 -- an attempt for each item of an argument
 abbrev pub read_parameterized : List ℕ → Option (RetryKind × List ℕ)

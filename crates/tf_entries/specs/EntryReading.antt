@@ -145,4 +145,5 @@ read_what atoms flows (tag ∷ bytes) = read_what_of atoms flows tag bytes
 abbrev pub read_entry : ℕ → ℕ → List ℕ → Option (Entry × List ℕ)
 read_entry atoms flows [] = None
 read_entry atoms flows (hand ∷ bytes) =
-    where_true (nat_lt hand 64) (chain (read_what atoms flows bytes) (λ what rest. Some (record { hand = hand; what = what }, rest)))
+    where_true (nat_lt hand 64)
+    (chain (read_what atoms flows bytes) (λ what rest. Some (record { hand = hand; what = what }, rest)))

@@ -22,13 +22,18 @@ use Rattle.tf_entries.specs.Reading.{chain, numbered, read_signed, read_name, re
 
 -- the result of a name is this value, is below this integer, is above it
 abbrev pub read_same : List ℕ → Option (Condition × List ℕ)
-read_same bytes = chain (read_name bytes) (λ name rest. chain (read_value rest) (λ wanted after. Some (is_same name wanted, after)))
+read_same bytes =
+    chain (read_name bytes) (λ name rest. chain (read_value rest) (λ wanted after. Some (is_same name wanted, after)))
 
 abbrev pub read_below : List ℕ → Option (Condition × List ℕ)
-read_below bytes = chain (read_name bytes) (λ name rest. chain (read_signed w64 rest) (λ limit after. Some (is_below name limit, after)))
+read_below bytes =
+    chain (read_name bytes)
+    (λ name rest. chain (read_signed w64 rest) (λ limit after. Some (is_below name limit, after)))
 
 abbrev pub read_above : List ℕ → Option (Condition × List ℕ)
-read_above bytes = chain (read_name bytes) (λ name rest. chain (read_signed w64 rest) (λ limit after. Some (is_above name limit, after)))
+read_above bytes =
+    chain (read_name bytes)
+    (λ name rest. chain (read_signed w64 rest) (λ limit after. Some (is_above name limit, after)))
 
 -- a test isn't true, each of several is, one of them is, where the tests within are read so
 abbrev pub read_not : (List ℕ → Option (Condition × List ℕ)) → List ℕ → Option (Condition × List ℕ)
@@ -77,7 +82,10 @@ read_depth (n ∷ rest) = numbered (depth_of n) rest
 
 -- a decider
 abbrev pub read_decided : List ℕ → Option (Option Decision × List ℕ)
-read_decided bytes = chain (read_depth bytes) (λ depth rest. chain (read_test 16 rest) (λ condition after. Some (Some (record { condition = condition; depth = depth }), after)))
+read_decided bytes =
+    chain (read_depth bytes)
+    (λ depth rest. chain (read_test 16 rest)
+    (λ condition after. Some (Some (record { condition = condition; depth = depth }), after)))
 
 -- a decider, where there is one
 abbrev pub read_decision_of : ℕ → List ℕ → Option (Option Decision × List ℕ)
@@ -145,7 +153,11 @@ read_flow_by nested bytes =
     chain (read_control after_kind) (λ retry after_retry.
     chain (read_list (read_item nested) after_retry) (λ items after_items.
     chain (read_links after_items) (λ links rest.
-    Some (written_flow record { name = name; kind = kind; retry = retry; links = links } (written_trees items), rest))))))
+    Some (
+      written_flow record { name = name; kind = kind; retry = retry; links = links }
+          (written_trees items),
+      rest,
+    ))))))
 
 -- a flow, where so many may stand in one another
 abbrev pub read_flow : ℕ → List ℕ → Option (WrittenTree × List ℕ)

@@ -97,7 +97,8 @@ task_kind_byte kind.Command = 9
 -- what reverts it
 abbrev pub task_bytes : Task → List ℕ
 task_bytes t =
-    name_bytes t.name ++ (task_kind_byte t.kind ∷ (listed text_bytes t.words ++ (listed arg_bytes t.args ++ (listed bind_bytes t.inject
+    name_bytes t.name ++
+    (task_kind_byte t.kind ∷ (listed text_bytes t.words ++ (listed arg_bytes t.args ++ (listed bind_bytes t.inject
     ++ (provides_bytes t.provides ++ (to_be_bytes w32 (cast_unsigned w32 t.priority) ++ undo_bytes t.undo))))))
 
 -- the number of a kind of retry controller, and what belongs to it: its attempts or its values, and
@@ -111,7 +112,9 @@ retry_kind_bytes (retry.Parameterized all) = 4 ∷ truth_byte all ∷ []
 
 -- a retry controller: its name, its kind, its arguments and constants, and what it provides
 abbrev pub retry_bytes : Retry → List ℕ
-retry_bytes r = name_bytes r.name ++ (retry_kind_bytes r.kind ++ (listed arg_bytes r.args ++ (listed bind_bytes r.inject ++ provides_bytes r.provides)))
+retry_bytes r =
+    name_bytes r.name ++
+    (retry_kind_bytes r.kind ++ (listed arg_bytes r.args ++ (listed bind_bytes r.inject ++ provides_bytes r.provides)))
 
 -- ---- limits
 
@@ -283,7 +286,8 @@ abbrev mutual
 
 -- a plan: its flow, its store, and whether reverts are deferred
 abbrev pub plan_bytes : PlanValue → List ℕ
-plan_bytes plan = tree_bytes (as_written (tree_of plan.root)) ++ (listed bind_bytes plan.store ++ (truth_byte plan.defer ∷ []))
+plan_bytes plan =
+    tree_bytes (as_written (tree_of plan.root)) ++ (listed bind_bytes plan.store ++ (truth_byte plan.defer ∷ []))
 
 -- ---- limits
 
@@ -302,7 +306,8 @@ pub record HeadWithin (Counts : ℕ → Type 0) (head : WrittenHead) : Type 0 wh
 abbrev mutual
   pub TreeWithin : (ℕ → Type 0) → WrittenTree → Type 0
   TreeWithin Counts (written_task t) = TaskWithin Counts t
-  TreeWithin Counts (written_flow head items) = HeadWithin Counts head × Counts (item_count items) × TreesWithin Counts items
+  TreeWithin Counts (written_flow head items) =
+      HeadWithin Counts head × Counts (item_count items) × TreesWithin Counts items
 
   pub TreesWithin : (ℕ → Type 0) → WrittenTrees → Type 0
   TreesWithin Counts nothing_written = Unit {0}

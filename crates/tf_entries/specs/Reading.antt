@@ -25,7 +25,8 @@ abbrev pub where_true : {Y : Type 0} → Bool → Option (Y × List ℕ) → Opt
 where_true kept read = if kept then read else None
 
 -- one more in front of those that are read
-abbrev pub read_first : {X : Type 0} → Option (X × List ℕ) → (List ℕ → Option (List X × List ℕ)) → Option (List X × List ℕ)
+abbrev pub read_first : {X : Type 0} → Option (X × List ℕ) → (List ℕ → Option (List X × List ℕ))
+    → Option (List X × List ℕ)
 read_first first others = chain first (λ x rest. chain (others rest) (λ xs after. Some (x ∷ xs, after)))
 
 -- so many, one after another
@@ -68,7 +69,8 @@ has_number w bytes = nat_le (byte_len w) (length bytes) && list_all is_byte (tak
 
 -- a number of this width, its high byte first
 abbrev pub read_number : Width → List ℕ → Option (ℕ × List ℕ)
-read_number w bytes = where_true (has_number w bytes) (Some (from_be_bytes w (take (byte_len w) bytes), drop (byte_len w) bytes))
+read_number w bytes =
+    where_true (has_number w bytes) (Some (from_be_bytes w (take (byte_len w) bytes), drop (byte_len w) bytes))
 
 -- one with a sign
 abbrev pub read_signed : Width → List ℕ → Option (ℤ × List ℕ)
@@ -76,7 +78,8 @@ read_signed w bytes = chain (read_number w bytes) (λ n rest. Some (cast_signed 
 
 -- so many bytes that pass a test
 abbrev pub read_bytes : (List ℕ → Bool) → ℕ → List ℕ → Option (List ℕ × List ℕ)
-read_bytes test len bytes = where_true (nat_le len (length bytes) && test (take len bytes)) (Some (take len bytes, drop len bytes))
+read_bytes test len bytes =
+    where_true (nat_le len (length bytes) && test (take len bytes)) (Some (take len bytes, drop len bytes))
 
 -- a name behind its length
 abbrev pub read_name : List ℕ → Option (List ℕ × List ℕ)

@@ -154,7 +154,8 @@ fn append_signature(
     out: &mut Vec<u8>,
 ) -> Result<(), Memory>
     ensures ok { OnOk result (out.new.items ≡ out.old.items
-        ++ (listed form.arg_bytes args.now ++ (listed form.bind_bytes inject.now ++ form.provides_bytes provides.now))) }
+        ++ (listed form.arg_bytes args.now ++ (listed form.bind_bytes inject.now
+        ++ form.provides_bytes provides.now))) }
     ensures args { OnOk result (AreFew form.IsArg args.now) }
     ensures inject { OnOk result (AreFew form.IsBind inject.now) }
     ensures provides { OnOk result (form.IsProvides provides.now) }

@@ -112,7 +112,8 @@ was_started (e ∷ past) a = started_after e.what a (was_started past a)
 abbrev pub HasOrderlyReverts : Outline → List Entry → Type 0
 HasOrderlyReverts plan [] = Unit {0}
 HasOrderlyReverts plan (e ∷ past) =
-    ((a b : ℕ) → enters_by is_reverting a e.what ≡ true → is_before plan a b ≡ true → is_settled (state_of past b) ≡ true)
+    ((a b : ℕ) → enters_by is_reverting a e.what ≡ true → is_before plan a b ≡ true
+    → is_settled (state_of past b) ≡ true)
     × HasOrderlyReverts plan past
 
 -- a flow that is a region
@@ -130,7 +131,8 @@ abbrev pub IsUndoneWithin : Outline → List Entry → Type 0
 IsUndoneWithin plan past = (g a : ℕ) → is_region plan (snapshot plan past) g ≡ true → holds plan g a ≡ true
     → was_started past a ≡ true → state_of past a ≡ atom.Reverted
 
--- a region is in force, what was started in the regions is undone, and each atom was reverted after all that is after it
+-- a region is in force, what was started in the regions is undone, and each atom was reverted after all that is after
+-- it
 pub record CompletedReversion (plan : Outline) (past : List Entry) : Type 0 where
   pub region : InForce plan (snapshot plan past)
   pub settled : IsSettledWithin plan past

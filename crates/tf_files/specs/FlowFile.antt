@@ -68,16 +68,20 @@ abbrev pub test_by : (List ℕ → Members → Result Condition FileFault) → L
 test_by inside path found = of_kind path (as_table found) (inside path)
 
 -- the tests at the only key of a table
-abbrev pub tests_by : (List ℕ → Members → Result Condition FileFault) → List ℕ → List ℕ → Members → Result (List Condition) FileFault
-tests_by inside key path members = known_only path (key ∷ []) members (required path key members (array_of (test_by inside)))
+abbrev pub tests_by : (List ℕ → Members → Result Condition FileFault) → List ℕ → List ℕ → Members
+    → Result (List Condition) FileFault
+tests_by inside key path members =
+    known_only path (key ∷ []) members (required path key members (array_of (test_by inside)))
 
 -- each of several tests is true
 abbrev pub all_by : (List ℕ → Members → Result Condition FileFault) → List ℕ → Members → Result Condition FileFault
-all_by inside path members = chain (tests_by inside (codes "all") path members) (λ tests. Ok (all_of (conditions_of tests)))
+all_by inside path members =
+    chain (tests_by inside (codes "all") path members) (λ tests. Ok (all_of (conditions_of tests)))
 
 -- one of several tests is true
 abbrev pub any_by : (List ℕ → Members → Result Condition FileFault) → List ℕ → Members → Result Condition FileFault
-any_by inside path members = chain (tests_by inside (codes "any") path members) (λ tests. Ok (any_of (conditions_of tests)))
+any_by inside path members =
+    chain (tests_by inside (codes "any") path members) (λ tests. Ok (any_of (conditions_of tests)))
 
 -- a test isn't true
 abbrev pub not_by : (List ℕ → Members → Result Condition FileFault) → List ℕ → Members → Result Condition FileFault
@@ -213,7 +217,8 @@ abbrev pub task_item : List ℕ → Members → Result WrittenTree FileFault
 task_item path members = chain (task_form path members) (λ t. Ok (written_task t))
 
 -- the item of a table, where a nested flow is read so
-abbrev pub item_table_by : (List ℕ → Members → Result WrittenTree FileFault) → List ℕ → Members → Result WrittenTree FileFault
+abbrev pub item_table_by : (List ℕ → Members → Result WrittenTree FileFault) → List ℕ → Members
+    → Result WrittenTree FileFault
 item_table_by nested path members = if is_flow_table members then nested path members else task_item path members
 
 -- an item
@@ -225,7 +230,8 @@ abbrev pub own_retry : List ℕ → Data → Result (Option Retry) FileFault
 own_retry path found = chain (retry_form path found) (λ retry. Ok (Some retry))
 
 -- what stands behind the name and the kind of a flow
-abbrev pub inside_by : (List ℕ → Members → Result WrittenTree FileFault) → List ℕ → Members → List ℕ → FlowKind → Result WrittenTree FileFault
+abbrev pub inside_by : (List ℕ → Members → Result WrittenTree FileFault) → List ℕ → Members → List ℕ → FlowKind
+    → Result WrittenTree FileFault
 inside_by nested path members name kind =
     chain (optional path (codes "retry") members None own_retry) (λ retry.
     chain (optional path (codes "items") members [] (array_of (item_by nested))) (λ items.
@@ -304,5 +310,6 @@ pub record IsBroken (plan : WrittenPlan) (reason : PlanFault) : Type 0 where
 -- limit or breaks a rule of plans; want of memory says nothing of it
 pub data IsFirstReason (spelled : Result WrittenPlan FileFault) : FileFault → Type 0 where
   unspelled : (reason : FileFault) → spelled ≡ Err reason → IsFirstReason spelled reason
-  broken : (plan : WrittenPlan) (reason : PlanFault) → spelled ≡ Ok plan → IsBroken plan reason → IsFirstReason spelled (fault.Plan reason)
+  broken : (plan : WrittenPlan) (reason : PlanFault) → spelled ≡ Ok plan → IsBroken plan reason
+      → IsFirstReason spelled (fault.Plan reason)
   no_memory : IsFirstReason spelled fault.Memory

@@ -68,7 +68,9 @@ undo_len (undo.Run words) = 1 + words_len words
 
 -- a task's priority has four bytes
 abbrev pub task_len : Task → ℕ
-task_len t = name_len t.name + 1 + words_len t.words + args_len t.args + binds_len t.inject + provides_len t.provides + 4 + undo_len t.undo
+task_len t =
+    name_len t.name + 1 + words_len t.words + args_len t.args + binds_len t.inject + provides_len t.provides + 4 +
+    undo_len t.undo
 
 -- the number of attempts has two bytes
 abbrev pub retry_kind_len : RetryKind → ℕ
@@ -93,7 +95,8 @@ abbrev pub comparison : ℕ → Measure
 comparison len = record { nesting = 1; comparisons = 1; len = 1 + len }
 
 abbrev pub beside : Measure → Measure → Measure
-beside m n = record { nesting = max m.nesting n.nesting; comparisons = m.comparisons + n.comparisons; len = m.len + n.len }
+beside m n =
+    record { nesting = max m.nesting n.nesting; comparisons = m.comparisons + n.comparisons; len = m.len + n.len }
 
 -- several tests beside one another
 abbrev pub together : List Measure → Measure

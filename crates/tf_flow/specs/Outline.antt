@@ -152,7 +152,8 @@ abbrev mutual
   -- those of the items of flow g from item i on, in which flows are numbered from n on
   pub atoms_among : ℕ → ℕ → ℕ → Trees → List Atom
   atoms_among g i n no_trees = []
-  atoms_among g i n (tree first others) = map (enter g i) (atoms_of n first) ++ atoms_among g (suc i) (n + flow_count first) others
+  atoms_among g i n (tree first others) =
+      map (enter g i) (atoms_of n first) ++ atoms_among g (suc i) (n + flow_count first) others
 
 -- the number of the retry controller of a flow whose atoms are numbered from a on
 abbrev pub retry_number : ℕ → Option Retry → Option ℕ
@@ -189,7 +190,8 @@ abbrev mutual
 
   pub flows_among : ℕ → ℕ → Trees → List FlowPlace
   flows_among n a no_trees = []
-  flows_among n a (tree first others) = flows_of n a first ++ flows_among (n + flow_count first) (a + atom_count first) others
+  flows_among n a (tree first others) =
+      flows_of n a first ++ flows_among (n + flow_count first) (a + atom_count first) others
 
 -- the numbers of the flows with the innermost first: those nested in a flow, item by item, before it
 abbrev mutual
@@ -243,7 +245,8 @@ abbrev mutual
   -- those in the items of flow g from item i on, in which flows are numbered from n on
   pub flow_paths_among : ℕ → ℕ → ℕ → Trees → List (List Turn)
   flow_paths_among g i n no_trees = []
-  flow_paths_among g i n (tree first others) = map (enter_path g i) (flow_paths n first) ++ flow_paths_among g (suc i) (n + flow_count first) others
+  flow_paths_among g i n (tree first others) =
+      map (enter_path g i) (flow_paths n first) ++ flow_paths_among g (suc i) (n + flow_count first) others
 
 -- the flows of a tree in tree order, each with what stands in it
 abbrev mutual

@@ -46,7 +46,8 @@ abbrev pub flow : PlanValue → ℕ → Option Tree
 flow plan g = slice_get (flow_trees (tree_of plan.root)) g
 
 -- what a plan keeps beside its flows is what tree order says, and nothing is refused
-pub record IsNumbered (root : Flow) (store : List Bind) (names : List (List ℕ)) (marks : List Bool) (levels : List (List ℕ)) (to_atoms to_flows : List (List Turn)) : Type 0 where
+pub record IsNumbered (root : Flow) (store : List Bind) (names : List (List ℕ)) (marks : List Bool)
+    (levels : List (List ℕ)) (to_atoms to_flows : List (List Turn)) : Type 0 where
   pub atoms_named : names ≡ atom_names (tree_order root)
   pub retries_marked : marks ≡ retry_marks (tree_order root)
   pub flows_named : levels ≡ flow_names (tree_order root)
@@ -80,7 +81,8 @@ written_trees (first ∷ others) = written first (written_trees others)
 
 -- what is written of a flow beside its items
 abbrev pub head_as_written : Head → WrittenHead
-head_as_written head = record { name = head.name; kind = head.kind; retry = head.retry; links = map connection_of head.links }
+head_as_written head =
+    record { name = head.name; kind = head.kind; retry = head.retry; links = map connection_of head.links }
 
 -- a tree as it is written
 abbrev mutual

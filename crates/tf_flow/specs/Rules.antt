@@ -119,7 +119,8 @@ bind_symbols binds = map (λ bind. bind.symbol) binds
 
 -- an argument name, an inject symbol or a provided name twice
 abbrev pub repeats_itself : List Arg → List Bind → Provides → Bool
-repeats_itself args inject provides = has_twice (arg_names args) || has_twice (bind_symbols inject) || has_twice (provided provides)
+repeats_itself args inject provides =
+    has_twice (arg_names args) || has_twice (bind_symbols inject) || has_twice (provided provides)
 
 abbrev pub is_bad_task : Task → Bool
 is_bad_task t =
@@ -165,17 +166,21 @@ bad_link order = option_map (λ name. fault.BadLink name) (first_some bad_link_a
 
 -- a store symbol twice is the root's fault, and the root stands before every atom
 abbrev pub bad_atom : List ℕ → List Bind → List Place → Option PlanFault
-bad_atom root store order = option_map (λ name. fault.BadAtom name) (if has_twice (bind_symbols store) then Some root else first_some bad_atom_at order)
+bad_atom root store order =
+    option_map (λ name. fault.BadAtom name)
+    (if has_twice (bind_symbols store) then Some root else first_some bad_atom_at order)
 
 -- what is looked for after the limits, in this order
 abbrev pub broken_rule : List ℕ → List Bind → List Place → Option PlanFault
 broken_rule root store order =
-    option_or (empty order) (option_or (duplicate order) (option_or (unknown order) (option_or (bad_link order) (bad_atom root store order))))
+    option_or (empty order)
+    (option_or (duplicate order) (option_or (unknown order) (option_or (bad_link order) (bad_atom root store order))))
 
 -- the first refusal of what would be a plan: a limit that is passed, or else a rule that is broken
 abbrev pub first_refusal : Flow → List Bind → Option PlanFault
 first_refusal root store =
-    option_or (too_large (capped (nesting (tree_of root))) (tree_order root) store) (broken_rule root.name store (tree_order root))
+    option_or (too_large (capped (nesting (tree_of root))) (tree_order root) store)
+    (broken_rule root.name store (tree_order root))
 
 -- want of memory says nothing of the plan; every other answer is its first refusal
 abbrev pub IsAnswer : Option PlanFault → PlanFault → Type 0

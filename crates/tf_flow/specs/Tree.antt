@@ -81,7 +81,8 @@ first_some give (x ∷ xs) = option_or (give x) (first_some give xs)
 -- the first element that stands earlier already: among those seen, or before it in the list
 abbrev pub first_again_after : {X : Type 0} → (X → X → Bool) → List X → List X → Option X
 first_again_after same seen [] = None
-first_again_after same seen (x ∷ xs) = if list_any (same x) seen then Some x else first_again_after same (seen ++ x ∷ []) xs
+first_again_after same seen (x ∷ xs) =
+    if list_any (same x) seen then Some x else first_again_after same (seen ++ x ∷ []) xs
 
 abbrev pub first_again : {X : Type 0} → (X → X → Bool) → List X → Option X
 first_again same xs = first_again_after same [] xs

@@ -1,7 +1,8 @@
-ghost use Rattle.std.specs.Prelude.{◌≡◌};
+ghost use Rattle.std.specs.Prelude.{◌≡◌, IfOk};
 
+use std::alloc::Global;
 use std::marker::Model;
-use tf_values::{Name, Names, Scalars, Texts, Val};
+use tf_values::{Memory, Name, Names, Scalars, Texts, Val};
 
 /// What a task does.
 #[derive(Clone, Copy, Debug, PartialEq, Eq)]
@@ -113,6 +114,19 @@ pub enum Undo {
     Fail,
     /// The program of these words is run, with the task's arguments.
     Run(Texts),
+}
+
+impl Undo {
+    /// An equal undo.
+    pub fn copy(&self, alloc: Global) -> Result<Undo, Memory>
+        ensures { IfOk result (λ copy. copy ≡ self.now) }
+    {
+        match self {
+            Undo::Pass => Ok(Undo::Pass),
+            Undo::Fail => Ok(Undo::Fail),
+            Undo::Run(words) => Ok(Undo::Run(words.copy(alloc)?)),
+        }
+    }
 }
 
 /// A task.

@@ -142,7 +142,8 @@ pub fn paths_of(alloc: Global, root: &Flow) -> Result<Paths, Memory>
 #[cycle(paths)]
 fn add_flow(alloc: Global, flow: &Flow, path: &[Turn], paths: &mut Paths) -> Result<(), Memory>
     ensures atoms { OnOk result (paths.new.atoms.items ≡ paths.old.atoms.items
-        ++ map (λ rest. path.now ++ rest) (map atom_path (atoms_of (length paths.old.flows.items) (tree_of flow.now)))) }
+        ++ map (λ rest. path.now ++ rest) (map atom_path
+        (atoms_of (length paths.old.flows.items) (tree_of flow.now)))) }
     ensures flows { OnOk result (paths.new.flows.items ≡ paths.old.flows.items
         ++ map (λ rest. path.now ++ rest) (flow_paths (length paths.old.flows.items) (tree_of flow.now))) }
 {

@@ -40,7 +40,8 @@ IsNoRefusal Unborn = ⊥
 IsNoRefusal Old = ⊥
 IsNoRefusal (NotABook offset byte) = ⊥
 
--- why a file that was born wasn't read: a disk fault comes only where their count rose, and it is neither unborn nor of another format
+-- why a file that was born wasn't read: a disk fault comes only where their count rose, and it is neither unborn nor of
+-- another format
 pub record FailsToRead (fault : JournalFault) (old new : DeskState) : Type 0 where
   pub cause : fault ≡ Disk → Rises old.disk_faults new.disk_faults
   pub born : fault ≢ Unborn
@@ -62,7 +63,8 @@ FailsToCreate (NotABook offset byte) old new = ⊥
 -- the file is unborn, or a journal with so many bodies, which end at that place
 abbrev pub IsScanned : Scanned → Title → List ℕ → Type 0
 IsScanned scanned.Unborn title bytes = recovered title bytes ≡ unborn
-IsScanned (scanned.Records count end) title bytes = (held : List (List ℕ)) × (recovered title bytes ≡ bodies held) × (count ≡ length held) × LiesAs title held end bytes
+IsScanned (scanned.Records count end) title bytes =
+    (held : List (List ℕ)) × (recovered title bytes ≡ bodies held) × (count ≡ length held) × LiesAs title held end bytes
 
 -- the place is one at which a journal may end
 abbrev pub EndsWithin : Scanned → Type 0

@@ -17,17 +17,20 @@ first_gate [] = 0
 first_gate (gate ∷ []) = 0
 first_gate (gate ∷ next ∷ rest) = gate
 
--- a draft without a body, in an unborn file: the file's gate, the title and a closed gate; what stood behind byte 18 stays
+-- a draft without a body, in an unborn file: the file's gate, the title and a closed gate; what stood behind byte 18
+-- stays
 abbrev pub draft_bytes : Title → List ℕ → List ℕ
 draft_bytes title old = first_gate old ∷ (title_of title ++ 0 ∷ drop 18 old)
 
--- a journal without a body, in an unborn file: in one of a book of several flows what stood behind byte 18 stays, and others have no more bytes
+-- a journal without a body, in an unborn file: in one of a book of several flows what stood behind byte 18 stays, and
+-- others have no more bytes
 abbrev pub born_bytes : Title → List ℕ → List ℕ
 born_bytes Book old = journal_bytes Book []
 born_bytes Jobs old = journal_bytes Jobs []
 born_bytes Book2 old = journal_bytes Book2 [] ++ drop 18 old
 
--- the title and a closed gate stand behind a gate that isn't open, so that the file is unborn whatever that gate is; what stood behind byte 18 stays
+-- the title and a closed gate stand behind a gate that isn't open, so that the file is unborn whatever that gate is;
+-- what stood behind byte 18 stays
 pub record IsTitled (title : Title) (old bytes : List ℕ) : Type 0 where
   pub whole : bytes ≡ draft_bytes title old
   pub shut : first_gate old ≢ OPEN

@@ -36,7 +36,9 @@ length_bytes n = n / 256 / 256 / 256 ∷ n / 256 / 256 % 256 ∷ n / 256 % 256 �
 
 -- the length that stands in the four bytes from that place on
 abbrev pub length_at : List ℕ → ℕ → ℕ
-length_at bytes place = 256 * (256 * (256 * slice_index bytes place + slice_index bytes (place + 1)) + slice_index bytes (place + 2)) + slice_index bytes (place + 3)
+length_at bytes place =
+    256 * (256 * (256 * slice_index bytes place + slice_index bytes (place + 1)) + slice_index bytes
+    (place + 2)) + slice_index bytes (place + 3)
 
 -- a record whose gate is open
 abbrev pub record_of : List ℕ → List ℕ
@@ -62,17 +64,19 @@ abbrev pub record_within : Title → List ℕ → ℕ → ℕ → Found
 record_within title bytes place n =
     if n == 0 || nat_lt (body_limit title) n || nat_lt SIZE_LIMIT (place + 6 + n)
     then bad (place + 1) (Some (slice_index bytes (place + 1)))
-    else (if nat_lt (length bytes) (place + 6 + n) then bad (length bytes) None else body (take n (drop (place + 5) bytes)) (place + 5 + n))
+    else (if nat_lt (length bytes) (place + 6 + n) then bad (length bytes) None
+    else body (take n (drop (place + 5) bytes)) (place + 5 + n))
 
 -- the record whose gate is at that place
 abbrev pub record_at : Title → List ℕ → ℕ → Found
 record_at title bytes place =
     if nat_lt place (length bytes) && slice_index bytes place == OPEN
-    then (if nat_lt (length bytes) (place + 5) then bad (length bytes) None else record_within title bytes place (length_at bytes (place + 1)))
+    then (if nat_lt (length bytes) (place + 5) then bad (length bytes) None
+    else record_within title bytes place (length_at bytes (place + 1)))
     else closed
 
--- what a file is: unborn, a book of one flow where one of several is asked for, a journal with these bodies, or none, by the place and
--- the byte that show it, or the file's end
+-- what a file is: unborn, a book of one flow where one of several is asked for, a journal with these bodies, or none,
+-- by the place and the byte that show it, or the file's end
 pub data Recovered : Type 0 where
   unborn : Recovered
   old_format : Recovered
@@ -97,24 +101,29 @@ abbrev pub records_from : Title → ℕ → List ℕ → ℕ → Recovered
 records_from title zero bytes place = bodies []
 records_from title (suc most) bytes place = then_from (record_at title bytes place) (records_from title most bytes)
 
--- the first byte that differs from the title, or the end that comes before the byte after it; the bytes stand from that offset on
+-- the first byte that differs from the title, or the end that comes before the byte after it; the bytes stand from that
+-- offset on
 abbrev pub title_fault : List ℕ → List ℕ → ℕ → Option (ℕ × Option ℕ)
 title_fault [] [] offset = Some (offset, None)
 title_fault [] (gate ∷ rest) offset = None
 title_fault (letter ∷ letters) [] offset = Some (offset, None)
-title_fault (letter ∷ letters) (byte ∷ rest) offset = if letter == byte then title_fault letters rest (offset + 1) else Some (offset, Some byte)
+title_fault (letter ∷ letters) (byte ∷ rest) offset =
+    if letter == byte then title_fault letters rest (offset + 1) else Some (offset, Some byte)
 
--- behind a gate that isn't open, what a creation or a draft leaves once the title is written: the title and 0, and nothing more; of a book of
--- several flows the title and anything behind it, since bodies are added before its gate is opened
+-- behind a gate that isn't open, what a creation or a draft leaves once the title is written: the title and 0, and
+-- nothing more; of a book of several flows the title and anything behind it, since bodies are added before its gate is
+-- opened
 abbrev pub has_title : Title → List ℕ → Bool
 has_title Book rest = pointwise ◌==◌ rest (title_of Book ++ 0 ∷ [])
 has_title Jobs rest = pointwise ◌==◌ rest (title_of Jobs ++ 0 ∷ [])
 has_title Book2 rest = pointwise ◌==◌ (take 16 rest) (title_of Book2)
 
--- a file that a creation or a draft may have left: it has a byte at most; or 18 at most, the first of them 0; or its title, and no open gate
+-- a file that a creation or a draft may have left: it has a byte at most; or 18 at most, the first of them 0; or its
+-- title, and no open gate
 abbrev pub is_unborn : Title → List ℕ → Bool
 is_unborn title [] = true
-is_unborn title (gate ∷ rest) = nat_eq (length rest) 0 || (nat_le (length rest) 17 && gate == 0) || (has_title title rest && not (gate == OPEN))
+is_unborn title (gate ∷ rest) =
+    nat_eq (length rest) 0 || (nat_le (length rest) 17 && gate == 0) || (has_title title rest && not (gate == OPEN))
 
 -- where a book of several flows is asked for, the title of a book of one flow stands behind the file's gate
 abbrev pub is_old : Title → List ℕ → Bool
@@ -131,15 +140,19 @@ titled (Some fault) records = not_a_book fault.0 fault.1
 abbrev pub recovered_born : Title → List ℕ → Recovered
 recovered_born title [] = unborn
 recovered_born title (gate ∷ rest) =
-    if gate == OPEN then titled (title_fault (title_of title) rest 1) (records_from title (length (gate ∷ rest)) (gate ∷ rest) 17) else not_a_book 0 (Some gate)
+    if gate == OPEN then titled (title_fault (title_of title) rest 1)
+    (records_from title (length (gate ∷ rest)) (gate ∷ rest) 17) else not_a_book 0 (Some gate)
 
 -- what a file is, by all its bytes
 abbrev pub recovered : Title → List ℕ → Recovered
-recovered title bytes = if is_unborn title bytes then unborn else (if is_old title (drop 1 bytes) then old_format else recovered_born title bytes)
+recovered title bytes =
+    if is_unborn title bytes then unborn else
+    (if is_old title (drop 1 bytes) then old_format else recovered_born title bytes)
 
 -- ---- what a journal holds
 
--- its desk, its title, the place after its last gate, whether an append found a disk fault, and whether it keeps nothing
+-- its desk, its title, the place after its last gate, whether an append found a disk fault, and whether it keeps
+-- nothing
 pub record Held (K : Type 0) : Type 0 where
   pub desk : K
   pub title : Title
@@ -183,7 +196,8 @@ pub record IsDrafted {K : Type 0} (state : K → DeskState) (journal : Held K) (
   pub shut : LiesShut journal.title held journal.size (bytes_now (state journal.desk))
   pub durable : IsDurable (state journal.desk)
 
--- where an append may write: the desk tells its content, no append found a disk fault, and the journal is kept in a file
+-- where an append may write: the desk tells its content, no append found a disk fault, and the journal is kept in a
+-- file
 pub record IsOpen {K : Type 0} (state : K → DeskState) (journal : Held K) : Type 0 where
   pub told : IsTrue (state journal.desk).tells
   pub sound : journal.halted ≡ false
@@ -210,7 +224,8 @@ abbrev pub desk_after : {K F : Type 0} → Result (Held K) (K × F) → K
 desk_after (Ok journal) = journal.desk
 desk_after (Err back) = back.0
 
--- a first sync answered Ok in a call: since then a crash leaves what a read gave before the call, and shows nothing more
+-- a first sync answered Ok in a call: since then a crash leaves what a read gave before the call, and shows nothing
+-- more
 pub record HasSynced (old new : DeskState) : Type 0 where
   pub moment : ℕ
   pub others : List Mark
@@ -229,7 +244,8 @@ LeavesUnborn title shown image text = (recovered title image ≡ unborn) × (sho
 
 -- a crash while the file's gate is opened: the file is unborn, or a journal with these bodies; the shown text stays
 abbrev pub LeavesUnbornOr : Title → List (List ℕ) → Option (List ℕ) → Pairs
-LeavesUnbornOr title held shown image text = ((recovered title image ≡ unborn) ⊎ (recovered title image ≡ bodies held)) × (shown ≡ Some text)
+LeavesUnbornOr title held shown image text =
+    ((recovered title image ≡ unborn) ⊎ (recovered title image ≡ bodies held)) × (shown ≡ Some text)
 
 -- a crash inside a creation: the file is unborn, or a journal without a record; the shown text stays
 abbrev pub LeavesBirth : Title → Option (List ℕ) → Pairs
@@ -237,7 +253,8 @@ LeavesBirth title shown = LeavesUnbornOr title [] shown
 
 -- a crash inside an append: the bodies from before, with the new one or without; the shown text stays
 abbrev pub LeavesBeforeOrAfter : Title → List (List ℕ) → List ℕ → Option (List ℕ) → Pairs
-LeavesBeforeOrAfter title held new shown image text = ((recovered title image ≡ bodies held) ⊎ (recovered title image ≡ bodies (held ++ new ∷ []))) × (shown ≡ Some text)
+LeavesBeforeOrAfter title held new shown image text =
+    ((recovered title image ≡ bodies held) ⊎ (recovered title image ≡ bodies (held ++ new ∷ []))) × (shown ≡ Some text)
 
 -- recovery finds these bodies in each image that a crash now may leave of the picked file
 abbrev pub LeavesBodies : Title → DeskState → List (List ℕ) → Type 0
@@ -245,7 +262,9 @@ LeavesBodies title state held = (image : List ℕ) → MayLeave state image → 
 
 -- it finds these bodies or those
 abbrev pub LeavesEither : Title → DeskState → List (List ℕ) → List (List ℕ) → Type 0
-LeavesEither title state held others = (image : List ℕ) → MayLeave state image → (recovered title image ≡ bodies held) ⊎ (recovered title image ≡ bodies others)
+LeavesEither title state held others =
+    (image : List ℕ) → MayLeave state image → (recovered title image ≡ bodies held)
+    ⊎ (recovered title image ≡ bodies others)
 
 -- each image that a crash now may leave of the picked file is unborn
 abbrev pub StaysUnborn : Title → DeskState → Type 0

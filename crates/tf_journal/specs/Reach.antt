@@ -20,7 +20,8 @@ pub record HasRecord (title : Title) (bytes : List ℕ) (place : ℕ) (record_bo
 -- what a look at a place tells of the record there
 abbrev pub Shows : Title → Look → List ℕ → ℕ → Type 0
 Shows title Closed bytes place = record_at title bytes place ≡ closed
-Shows title (Body n) bytes place = (record_body : List ℕ) × (length record_body ≡ n) × HasRecord title bytes place record_body
+Shows title (Body n) bytes place =
+    (record_body : List ℕ) × (length record_body ≡ n) × HasRecord title bytes place record_body
 Shows title (Bad offset byte) bytes place = record_at title bytes place ≡ bad offset byte
 
 -- a record that a look shows ends before the greatest size
@@ -41,7 +42,8 @@ pub record Reaches (title : Title) (bytes : List ℕ) (held : List (List ℕ)) (
   pub within : place < length bytes
   pub limit : place < SIZE_LIMIT
   pub fit : AreBodies title held
-  pub left : (most : ℕ) × (most + length held ≡ length bytes) × (records_from title (length bytes) bytes 17 ≡ with_bodies held (records_from title most bytes place))
+  pub left : (most : ℕ) × (most + length held ≡ length bytes)
+      × (records_from title (length bytes) bytes 17 ≡ with_bodies held (records_from title most bytes place))
 
 -- so many bodies stand up to a gate that isn't open, which that place is behind
 pub record EndsRecords (title : Title) (bytes : List ℕ) (count end : ℕ) : Type 0 where

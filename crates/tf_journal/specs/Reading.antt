@@ -34,15 +34,18 @@ pub record IsPastLimit (offset : ℕ) (byte : Option ℕ) (place : ℕ) : Type 0
   pub offset_is : offset ≡ place
   pub byte_is : byte ≡ None
 
--- a place of these bytes was refused: it is past the greatest size, or there is no record behind the open gate there, as that byte or the file's end
--- shows; a fault of the disk and want of memory come only below the greatest size, and say nothing of the file
+-- a place of these bytes was refused: it is past the greatest size, or there is no record behind the open gate there,
+-- as that byte or the file's end shows; a fault of the disk and want of memory come only below the greatest size, and
+-- say nothing of the file
 abbrev pub RefusesPlace : LoadFault → Title → List ℕ → ℕ → Type 0
 RefusesPlace load_fault.Disk title bytes place = place < SIZE_LIMIT
 RefusesPlace load_fault.Memory title bytes place = place < SIZE_LIMIT
-RefusesPlace (load_fault.NotABook offset byte) title bytes place = IsPastLimit offset byte place ⊎ ((place < SIZE_LIMIT) × (record_at title bytes place ≡ bad offset byte))
+RefusesPlace (load_fault.NotABook offset byte) title bytes place =
+    IsPastLimit offset byte place ⊎ ((place < SIZE_LIMIT) × (record_at title bytes place ≡ bad offset byte))
 RefusesPlace load_fault.Old title bytes place = ⊥
 
--- a journal through which bodies were read: no file changed, nothing was shown, and no count but that of disk faults rose
+-- a journal through which bodies were read: no file changed, nothing was shown, and no count but that of disk faults
+-- rose
 pub record OnlyReads {K : Type 0} (state : K → DeskState) (old new : Held K) : Type 0 where
   pub journal : new ≡ record old { desk = new.desk }
   pub stays : IsTrue (state old.desk).tells → (held : List (List ℕ)) → IsAtRest state old held → IsAtRest state new held

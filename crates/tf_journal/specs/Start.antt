@@ -24,8 +24,8 @@ first_sync (at_sync moment ∷ marks) = Some moment
 abbrev pub IsFirm : List ℕ → DeskState → Type 0
 IsFirm name state = (image : List ℕ) → state.left name image → image ≡ file_of state name
 
--- the call's start: the moment of its first pick, where a crash could leave nothing of the file but what it reads as; else that of its
--- first sync
+-- the call's start: the moment of its first pick, where a crash could leave nothing of the file but what it reads as;
+-- else that of its first sync
 pub record IsStart (name : List ℕ) (entry now : DeskState) (moment : ℕ) : Type 0 where
   pub more : List Mark
   pub added : now.content.marks ≡ entry.content.marks ++ more
@@ -33,11 +33,13 @@ pub record IsStart (name : List ℕ) (entry now : DeskState) (moment : ℕ) : Ty
 
 -- ---- what is known of the desk on its way through a command that picks a file
 
--- since the call's start a crash left only what `may` says, and now leaves only what `held` says; the other files are as they were
+-- since the call's start a crash left only what `may` says, and now leaves only what `held` says; the other files are
+-- as they were
 pub record Path (name : List ℕ) (entry now : DeskState) (may : Pairs) (held : List ℕ → Type 0) : Type 0 where
   pub others : (other : List ℕ) → other ≢ name → now.content.files other ≡ entry.content.files other
   pub within : (moment : ℕ) → IsStart name entry now moment → moment ≤ now.content.clock
-  pub crash : (moment : ℕ) → IsStart name entry now moment → (image text : List ℕ) → now.crashes moment image text → may image text
+  pub crash : (moment : ℕ) → IsStart name entry now moment → (image text : List ℕ) → now.crashes moment image text
+      → may image text
   pub still : (moment : ℕ) → IsStart name entry now moment → (image : List ℕ) → MayLeave now image → held image
 
 -- the file of that name is picked and synced

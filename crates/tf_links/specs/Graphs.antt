@@ -88,7 +88,8 @@ pub record AreBelow (n : ℕ) (pairs : List Pair) : Type 0 where
   pub first : (u v : ℕ) → has_pair pairs u v ≡ true → u < n
   pub second : (u v : ℕ) → has_pair pairs u v ≡ true → v < n
 
--- u is linked to the first number on the path, each of these to the next, and the last to v; at once where none is on the path
+-- u is linked to the first number on the path, each of these to the next, and the last to v; at once where none is on
+-- the path
 abbrev pub leads_through : List Pair → ℕ → List ℕ → ℕ → Bool
 leads_through pairs u [] v = has_pair pairs u v
 leads_through pairs u (w ∷ path) v = has_pair pairs u w && leads_through pairs w path v
@@ -104,7 +105,8 @@ pub record Waits (pairs : List Pair) (before : List ℕ) (w : ℕ) : Type 0 wher
   pub leads : has_pair pairs number w ≡ true
   pub is_missing : has_number before number ≡ false
 
--- v is rightly next: a number below n that doesn't stand before, all that lead to it do, and each smaller one does or waits
+-- v is rightly next: a number below n that doesn't stand before, all that lead to it do, and each smaller one does or
+-- waits
 pub record IsNextOf (n : ℕ) (pairs : List Pair) (before : List ℕ) (v : ℕ) : Type 0 where
   pub below : v < n
   pub once : has_number before v ≡ false

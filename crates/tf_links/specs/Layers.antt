@@ -35,4 +35,5 @@ walk_by links item (suc k) u = u ∷ go_on (first_passing links (in_layer links 
 pub record AreLayers (links : LinksValue) (item : ℕ) (layers : List (List ℕ)) (count : ℕ) : Type 0 where
   pub height : length layers ≡ count
   pub width : (k : ℕ) → k < count → length (slice_index_or layers k []) ≡ words_for links.count
-  pub told : (k : ℕ) → k < count → (u : ℕ) → u < links.count → has (slice_index_or layers k []) u ≡ in_layer links item k u
+  pub told : (k : ℕ) → k < count → (u : ℕ) → u < links.count
+      → has (slice_index_or layers k []) u ≡ in_layer links item k u

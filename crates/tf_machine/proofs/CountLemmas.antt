@@ -21,8 +21,8 @@ use Rattle.tf_order.specs.Graph.{predecessors_of, successors_of}
 use Rattle.tf_order.proofs.GraphLemmas.{rows_length, row_told}
 use Rattle.tf_machine.specs.declared.counters.Counters.{Counters}
 use Rattle.tf_machine.specs.Counts.{how_many, is_undone, is_unsettled, waiting_of, holding_of, AreNumbers, AreCounted, stepped, after_steps, after_turn, AreDistinct}
-use Rattle.tf_machine.specs.Stretches.{AreSteppedFrom}
-use Rattle.tf_machine.proofs.StretchLemmas.{IsPassed, left_before, stretch_steps}
+use Rattle.tf_machine.specs.Intervals.{AreSteppedFrom}
+use Rattle.tf_machine.proofs.IntervalLemmas.{IsPassed, left_before, interval_steps}
 
 -- ---- how many pass
 
@@ -222,12 +222,12 @@ pub record AreStepped (more : Bool) (atoms left old now : List ℕ) : Type 0 whe
 pub none_stepped : (more : Bool) (atoms counts : List ℕ) → ((a : ℕ) → has_number atoms a ≡ true → a < length counts) → AreStepped more atoms atoms counts counts
 none_stepped more atoms counts within = record { as_many = refl; within = within; each = λ a. refl }
 
-pub stretch_stepped : (more : Bool) (atoms : List ℕ) (k e x : ℕ) (old mid new : List ℕ) → IsPassed atoms k e x → AreSteppedFrom more x (x + (e - k)) mid new
+pub interval_stepped : (more : Bool) (atoms : List ℕ) (k e x : ℕ) (old mid new : List ℕ) → IsPassed atoms k e x → AreSteppedFrom more x (x + (e - k)) mid new
     → AreStepped more atoms (drop k atoms) old mid → AreStepped more atoms (drop e atoms) old new
-stretch_stepped more atoms k e x old mid new passed steps are = record {
+interval_stepped more atoms k e x old mid new passed steps are = record {
   as_many = steps.as_many ∙ are.as_many;
   within = λ a inside. subst (λ (n : ℕ). a < n) (sym steps.as_many) (are.within a (left_before atoms k e x a passed inside));
-  each = λ a. stretch_steps more atoms k e x mid new passed steps a ∙ are.each a;
+  each = λ a. interval_steps more atoms k e x mid new passed steps a ∙ are.each a;
 }
 
 pub all_stepped : (more : Bool) (atoms : List ℕ) (k : ℕ) (old now : List ℕ) → length atoms ≤ k → AreStepped more atoms (drop k atoms) old now → (a : ℕ) → slice_get now a ≡ after_steps more atoms old a

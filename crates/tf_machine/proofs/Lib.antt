@@ -19,6 +19,6 @@ pub mod LeftLemmas
 pub mod Rows
 mod WorkLemmas
 mod ListedLemmas
-mod StretchLemmas
+mod IntervalLemmas
 mod SpanLemmas
 mod ExtentLemmas

@@ -1,4 +1,4 @@
--- A worklist made atom by atom, over stretches, spans and all atoms, and what it tells.
+-- A worklist made atom by atom, over intervals, spans and all atoms, and what it tells.
 use Rattle.std.proofs.Common.{◌≡◌, ℕ, ◌+◌, ◌-◌, ◌<◌, ◌≤◌, List, [], drop, get_or, length, Bool, true, false, not, ◌||◌, ◌≢◌, Option, None, ◌⊎◌, inl, inr, refl, sym, ap, ◌∙◌, subst, arith, eqb-true, eq-eqb}
 use Rattle.std.specs.Prelude.{nat_eq, is_none}
 use Rattle.tf_numbers.specs.Numbers.{has_number, all_below, first_below, is_number}
@@ -21,10 +21,10 @@ use Rattle.tf_machine.specs.declared.worklists.Reach.TheVariants as reach
 use Rattle.tf_machine.specs.Worklists.{ListedAt, HasRoom, IsListed, SameAt, IsListedWithin, AreRelisted, is_reached, counts_in}
 use Rattle.tf_machine.specs.declared.counters.Counters.{Counters}
 use Rattle.tf_machine.specs.Counts.{waiting_of, holding_of, AreCounted}
-use Rattle.tf_machine.specs.Stretches.{IsZeroless}
+use Rattle.tf_machine.specs.Intervals.{IsZeroless}
 use Rattle.tf_machine.proofs.CountLemmas.{none_waiting, none_holding}
 use Rattle.tf_machine.proofs.ReadinessLemmas.{never_runs, never_reverts}
-use Rattle.tf_machine.proofs.StretchLemmas.{IsPassed, left_or_there}
+use Rattle.tf_machine.proofs.IntervalLemmas.{IsPassed, left_or_there}
 use Rattle.std.proofs.lemmas.Option.{get_or_from_slice_get}
 use Rattle.tf_machine.proofs.WorkLemmas.{alike, alike_now, moved_on, listed_on, moved_but}
 
@@ -40,10 +40,10 @@ pub record AreSoFar (plan : Outline) (s : Snapshot) (how : Reach) (atoms left : 
 pub none_so_far : (plan : Outline) (s : Snapshot) (how : Reach) (atoms : List ℕ) (old : Worklist) → HasRoom plan old → AreSoFar plan s how atoms atoms old old
 none_so_far plan s how atoms old room = record { room = room; hurt = refl; moved = λ a. inl (alike_now old a); reached = λ a inside able. inl inside }
 
--- a stretch more is as it was or listed, and listed where it is reached
-pub stretch_so_far : (plan : Outline) (s : Snapshot) (how : Reach) (atoms : List ℕ) (k e x : ℕ) (old now new : Worklist) → IsPassed atoms k e x
+-- an interval more is as it was or listed, and listed where it is reached
+pub interval_so_far : (plan : Outline) (s : Snapshot) (how : Reach) (atoms : List ℕ) (k e x : ℕ) (old now new : Worklist) → IsPassed atoms k e x
     → AreSoFar plan s how atoms (drop k atoms) old now → AreRelisted plan s how x (x + (e - k)) now new → AreSoFar plan s how atoms (drop e atoms) old new
-stretch_so_far plan s how atoms k e x old now new passed far are = record {
+interval_so_far plan s how atoms k e x old now new passed far are = record {
   room = are.room;
   hurt = are.hurt ∙ far.hurt;
   moved = λ a. moved_on plan s old now new a (far.moved a) (are.moved a);

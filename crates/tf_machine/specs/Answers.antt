@@ -29,10 +29,11 @@ view_at s a = record { state = s.state a; payload = s.payload a }
 abbrev pub views_of : Outline → Snapshot → List AtomView
 views_of plan s = map (view_at s) (numbers_below (count plan))
 
--- the fault is the plan's first refusal: to compile it, or else the symbol that is missing; want of memory says nothing of
--- it, and is neither
+-- the fault is the plan's first refusal: to compile it, or else the symbol that is missing; want of memory says nothing
+-- of it, and is neither
 abbrev pub IsBuildRefusal : PlanValue → BuildFault → Type 0
-IsBuildRefusal plan (build_fault.Compile fault) = IsRefusedBy (compile_refusal plan) fault × (fault ≢ compile_fault.Memory)
+IsBuildRefusal plan (build_fault.Compile fault) =
+    IsRefusedBy (compile_refusal plan) fault × (fault ≢ compile_fault.Memory)
 IsBuildRefusal plan (build_fault.Scope fault) =
     (compile_refusal plan ≡ None) × IsMissing (missing_symbol (outline_of plan)) fault × (fault ≢ scope_fault.Memory)
 IsBuildRefusal plan build_fault.Memory = Unit {0}

@@ -16,7 +16,8 @@ outranked plan (Some best) a = int_lt (priority plan best) (priority plan a)
 -- the best of the candidates below n, the first of them where several have the greatest priority
 abbrev pub best_below : Outline → Snapshot → ℕ → Option ℕ
 best_below plan s zero = None
-best_below plan s (suc n) = if outranked plan (best_below plan s n) n && is_candidate plan s n then Some n else best_below plan s n
+best_below plan s (suc n) =
+    if outranked plan (best_below plan s n) n && is_candidate plan s n then Some n else best_below plan s n
 
 -- nothing is carried
 abbrev pub is_empty : Payload → Bool

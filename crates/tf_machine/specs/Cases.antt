@@ -23,7 +23,8 @@ applies plan s case.Run a = rule.is_retry_to_run plan s a
 
 -- a is a retry controller in SUCCESS, and a resolve of its own flow is to run it again
 abbrev pub is_asked_again : Outline → Snapshot → ℕ → Bool
-is_asked_again plan s a = (is_retry plan a && is_success (s.state a)) && rule.is_marked_again (own_flow plan a) (s.mark a)
+is_asked_again plan s a =
+    (is_retry plan a && is_success (s.state a)) && rule.is_marked_again (own_flow plan a) (s.mark a)
 
 -- the entry of the case for atom a
 abbrev pub entry_in : Outline → Snapshot → Case → ℕ → What
@@ -50,7 +51,8 @@ case_of k = get_or cases k case.Attempt
 -- the place of the first case that applies to atom a, where one does
 abbrev pub IsCaseAt : Outline → Snapshot → ℕ → Option ℕ → Type 0
 IsCaseAt plan s a None = (j : ℕ) → j < 8 → applies plan s (case_of j) a ≡ false
-IsCaseAt plan s a (Some k) = (k < 8) × (applies plan s (case_of k) a ≡ true) × ((j : ℕ) → j < k → applies plan s (case_of j) a ≡ false)
+IsCaseAt plan s a (Some k) =
+    (k < 8) × (applies plan s (case_of k) a ≡ true) × ((j : ℕ) → j < k → applies plan s (case_of j) a ≡ false)
 
 -- what was found before, or a case of atom a at an earlier place
 abbrev pub sooner : Option Placed → Option ℕ → ℕ → Option Placed
@@ -62,7 +64,8 @@ sooner (Some found) (Some k) a = if nat_lt k found.place then Some (record { pla
 -- the entry of the first of some cases that applies, for the first atom to which it does
 abbrev pub entry_among : Outline → Snapshot → List Case → Option What
 entry_among plan s [] = None
-entry_among plan s (first ∷ others) = option_or (rule.first_entry plan (applies plan s first) (entry_in plan s first)) (entry_among plan s others)
+entry_among plan s (first ∷ others) =
+    option_or (rule.first_entry plan (applies plan s first) (entry_in plan s first)) (entry_among plan s others)
 
 -- the entry of a case that was found, with its atom
 abbrev pub entry_of : Outline → Snapshot → Forcing → What

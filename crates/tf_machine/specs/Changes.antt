@@ -61,7 +61,8 @@ abbrev pub flow_rests : FlowState → Bool
 flow_rests flow.Pending = true
 flow_rests state = false
 
--- a place after a retry controller of this flow began another attempt: a mark of that flow's resolve to run again is gone
+-- a place after a retry controller of this flow began another attempt: a mark of that flow's resolve to run again is
+-- gone
 abbrev pub begun : Option ℕ → Place → Place
 begun own place = if is_marked_again own (option_map resolve_of place.mark) then marked None place else place
 
@@ -82,7 +83,9 @@ ArePlacesHeld plan places = (a : ℕ) (place : Place) → slice_get places a ≡
 
 -- a change makes nothing of the place of an atom outside a span
 abbrev pub Stays : Outline → Change → Span → Type 0
-Stays plan change span = (a : ℕ) (place : Place) → a < count plan → IsMarkHeld plan a place → (IsInSpan span a → ⊥) → changed plan change a place ≡ place
+Stays plan change span =
+    (a : ℕ) (place : Place) → a < count plan → IsMarkHeld plan a place → (IsInSpan span a → ⊥)
+    → changed plan change a place ≡ place
 
 -- the place of each atom became what a change makes of it
 pub record AreChanged (change : ℕ → Place → Place) (old new : List Place) : Type 0 where
@@ -91,8 +94,10 @@ pub record AreChanged (change : ℕ → Place → Place) (old new : List Place) 
 
 -- a place after the flow entered a state: in RESUMING nothing is in flight, and in PENDING no mark is left
 abbrev pub turned : FlowState → Place → Place
-turned state place = if flow_resumes state then released place else if flow_rests state then marked None place else place
+turned state place =
+    if flow_resumes state then released place else if flow_rests state then marked None place else place
 
 -- a place after an atom entered a state: where a retry controller begins to run, marks of its own flow are gone
 abbrev pub cleared : Outline → ℕ → AtomState → Place → Place
-cleared plan entered state place = if is_running state && is_retry plan entered then begun (own_flow plan entered) place else place
+cleared plan entered state place =
+    if is_running state && is_retry plan entered then begun (own_flow plan entered) place else place

@@ -45,9 +45,10 @@ abbrev pub AreSpans : Outline → List Span → Type 0
 AreSpans plan spans = (flow : ℕ) (span : Span) → slice_get spans flow ≡ Some span → IsSpanOf plan flow span
 
 -- the graph is the plan's, so is what tells from where its atoms take their values, and no symbol is missing; the
--- priorities are those of its atoms, and none is greater than the greatest; and it is told which of them are decided on, and
--- among which atoms are those of each flow
-pub record IsCompiled (plan : PlanValue) (order : GraphValue) (sources : List (List Source)) (numbers : List ℤ) (most : ℤ) (marks : List Bool) (found : List Span) : Type 0 where
+-- priorities are those of its atoms, and none is greater than the greatest; and it is told which of them are decided
+-- on, and among which atoms are those of each flow
+pub record IsCompiled (plan : PlanValue) (order : GraphValue) (sources : List (List Source)) (numbers : List ℤ)
+    (most : ℤ) (marks : List Bool) (found : List Span) : Type 0 where
   pub graph : IsGraphOf order plan
   pub providers : IsOf sources plan
   pub complete : missing_symbol (outline_of plan) ≡ None

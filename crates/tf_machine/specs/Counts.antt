@@ -50,7 +50,8 @@ stepped false n = n - 1
 
 -- what a list tells of a number after each of some numbers was told to be one more, or one less
 abbrev pub after_steps : Bool → List ℕ → List ℕ → ℕ → Option ℕ
-after_steps more atoms counts a = if has_number atoms a then option_map (stepped more) (slice_get counts a) else slice_get counts a
+after_steps more atoms counts a =
+    if has_number atoms a then option_map (stepped more) (slice_get counts a) else slice_get counts a
 
 -- the same where a truth turned: one more where it was so, and one less where it is so now
 abbrev pub after_turn : Bool → Bool → List ℕ → List ℕ → ℕ → Option ℕ

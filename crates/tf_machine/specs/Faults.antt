@@ -10,7 +10,8 @@ use Rattle.tf_machine.specs.declared.faults.BuildFault.TheVariants as build_faul
 -- want of memory stays what it is, and any other fault is one of compilation
 abbrev pub build_fault_of : CompileFault → BuildFault
 build_fault_of compile_fault.Memory = build_fault.Memory
-build_fault_of (compile_fault.Ambiguous symbol first second) = build_fault.Compile (compile_fault.Ambiguous symbol first second)
+build_fault_of (compile_fault.Ambiguous symbol first second) =
+    build_fault.Compile (compile_fault.Ambiguous symbol first second)
 build_fault_of (compile_fault.Cycle names) = build_fault.Compile (compile_fault.Cycle names)
 
 -- the fault is made of the other

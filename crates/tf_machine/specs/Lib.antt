@@ -10,4 +10,4 @@ pub mod Changes
 pub mod Tries
 pub mod Counts
 pub mod Worklists
-pub mod Stretches
+pub mod Intervals

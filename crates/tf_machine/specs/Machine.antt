@@ -41,8 +41,9 @@ pub record StandsFor (m : MachineValue) (past : List Entry) : Type 0 where
 abbrev pub HasHistory : MachineValue → Type 0
 HasHistory m = (past : List Entry) × StandsFor m past
 
--- the plan of every machine compiles, lacks no symbol and has tries that a number of 16 bits counts; the machine has a view and
--- a place for each atom, stands for some history, and what bounds a run and its attempts holds of what it shows
+-- the plan of every machine compiles, lacks no symbol and has tries that a number of 16 bits counts; the machine has a
+-- view and a place for each atom, stands for some history, and what bounds a run and its attempts holds of what it
+-- shows
 pub record IsSoundMachine (m : MachineValue) : Type 0 where
   pub compiles : compile_refusal m.plan ≡ None
   pub complete : missing_symbol (outline m) ≡ None
@@ -53,7 +54,8 @@ pub record IsSoundMachine (m : MachineValue) : Type 0 where
   pub bounded : IsBounded (outline m) (shown m)
   pub tries : HasTries (outline m) (shown m)
 
--- what every machine keeps: it is sound, its counters are those of what it shows, and what is to be looked at then is listed
+-- what every machine keeps: it is sound, its counters are those of what it shows, and what is to be looked at then is
+-- listed
 pub record IsSoundWith (m : MachineValue) (counters : Counters) (list : Worklist) : Type 0 where
   pub sound : IsSoundMachine m
   pub counted : AreCounted (outline m) (shown m) counters

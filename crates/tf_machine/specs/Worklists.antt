@@ -16,8 +16,9 @@ use Rattle.tf_machine.specs.declared.worklists.Extent.TheVariants as extent
 use Rattle.tf_machine.specs.declared.worklists.Reach.{Reach}
 use Rattle.tf_machine.specs.declared.worklists.Reach.TheVariants as reach
 
--- where an atom isn't in the first set, no case applies to it, while it can run nothing ever refuses it, and it isn't asked to run its flow again; where it isn't in the second, it is no
--- candidate; where it isn't in the third, it isn't in flight
+-- where an atom isn't in the first set, no case applies to it, while it can run nothing ever refuses it, and it isn't
+-- asked to run its flow again; where it isn't in the second, it is no candidate; where it isn't in the third, it isn't
+-- in flight
 pub record ListedAt (plan : Outline) (s : Snapshot) (list : Worklist) (a : ℕ) : Type 0 where
   pub cases : has list.forcing a ≡ false → (k : Case) → applies plan s k a ≡ false
   pub never : has list.forcing a ≡ false → can_run plan s a ≡ true → (t : Snapshot) → refused plan t a ≡ None
@@ -49,7 +50,8 @@ pub record AgreesOnAtom (s t : Snapshot) (a : ℕ) : Type 0 where
   pub mark : t.mark a ≡ s.mark a
   pub hand : t.hand a ≡ s.hand a
 
--- two moments agree on the states of all atoms but one, and on the marks and the hands of those of them that a flow, if one is named, doesn't hold
+-- two moments agree on the states of all atoms but one, and on the marks and the hands of those of them that a flow, if
+-- one is named, doesn't hold
 pub record IsMovedAt (plan : Outline) (a : ℕ) (flow : Option ℕ) (s t : Snapshot) : Type 0 where
   pub states : (b : ℕ) → nat_eq a b ≡ false → t.state b ≡ s.state b
   pub others : (b : ℕ) → nat_eq a b ≡ false → holds_with plan flow b ≡ false → AgreesOnAtom s t b
@@ -65,14 +67,16 @@ AreMoved plan s (extent.Begin a) t = IsMovedAt plan a (own_flow plan a) s t
 abbrev pub AreMarksHeld : Outline → Snapshot → Type 0
 AreMarksHeld plan s = (a : ℕ) (m : Resolve) → s.mark a ≡ Some m → holds plan m.flow a ≡ true
 
--- from one worklist to another each atom stays as it is or is listed as it is at this moment, and each that a flow holds, if one is named, is so
+-- from one worklist to another each atom stays as it is or is listed as it is at this moment, and each that a flow
+-- holds, if one is named, is so
 pub record IsListedWithin (plan : Outline) (s : Snapshot) (flow : Option ℕ) (old new : Worklist) : Type 0 where
   pub room : HasRoom plan new
   pub hurt : new.hurt ≡ old.hurt
   pub moved : (a : ℕ) → SameAt old new a ⊎ ListedAt plan s new a
   pub listed : (a : ℕ) → holds_with plan flow a ≡ true → ListedAt plan s new a
 
--- what may become of an atom after another one's state changed: it can run, since that one is done with; or it can revert, since that one is settled
+-- what may become of an atom after another one's state changed: it can run, since that one is done with; or it can
+-- revert, since that one is settled
 abbrev pub is_reached : Outline → Snapshot → Reach → ℕ → Bool
 is_reached plan s reach.Run a = can_run plan s a
 is_reached plan s reach.Revert a = can_revert plan s a
@@ -82,9 +86,10 @@ abbrev pub counts_in : Reach → Counters → List ℕ
 counts_in reach.Run counters = counters.waiting.items
 counts_in reach.Revert counters = counters.holding.items
 
--- from one worklist to another each atom stays as it is or is listed as it is at this moment, and of those from one on and before another each that is
--- reached is so
-pub record AreRelisted (plan : Outline) (s : Snapshot) (how : Reach) (first past : ℕ) (old new : Worklist) : Type 0 where
+-- from one worklist to another each atom stays as it is or is listed as it is at this moment, and of those from one on
+-- and before another each that is reached is so
+pub record AreRelisted (plan : Outline) (s : Snapshot) (how : Reach) (first past : ℕ)
+    (old new : Worklist) : Type 0 where
   pub room : HasRoom plan new
   pub hurt : new.hurt ≡ old.hurt
   pub moved : (a : ℕ) → SameAt old new a ⊎ ListedAt plan s new a

@@ -10,9 +10,9 @@ ghost use Rattle.tf_machine.specs.Tables.{shown_by};
 ghost use Rattle.tf_machine.specs.Worklists.{IsListed};
 
 use crate::compiled::Compiled;
+use crate::intervals::next_in;
 use crate::readiness::{can_revert, can_run};
 use crate::states::{is_failure, is_retrying, is_reverting, is_running, is_settled, is_success};
-use crate::stretches::next_in;
 use crate::tables::{Tables, is_marked_again};
 use crate::worklists::{Worklist, first_of};
 

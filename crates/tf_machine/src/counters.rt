@@ -3,12 +3,12 @@ ghost use Rattle.tf_numbers.specs.Numbers.{has_number};
 ghost use Rattle.tf_states.specs.declared.state.AtomState.TheVariants.{Pending as pending};
 ghost use Rattle.tf_model.specs.Plan.{Outline, outline_of, count};
 ghost use Rattle.tf_model.specs.History.{Snapshot};
-ghost use Rattle.tf_machine.specs.Stretches.{AreApart, AreSteppedFrom};
+ghost use Rattle.tf_machine.specs.Intervals.{AreApart, AreSteppedFrom};
 ghost use Rattle.tf_machine.specs.Counts.{AreCounted, AreDistinct, after_steps, after_turn, stepped, waiting_of, holding_of};
 
 use crate::compiled::Compiled;
+use crate::intervals::interval_end;
 use crate::states::{is_done, is_settled};
-use crate::stretches::stretch_end;
 use std::alloc::Global;
 use tf_states::AtomState;
 use tf_values::Memory;
@@ -98,7 +98,7 @@ fn turn_each(was: bool, is: bool, atoms: &[u16], counts: &mut [u16])
     step_each(was, atoms, counts);
 }
 
-/// The number of each of these atoms becomes one more, or one less. Those side by side are passed in one stretch.
+/// The number of each of these atoms becomes one more, or one less. Those side by side are passed in one interval.
 fn step_each(more: bool, atoms: &[u16], counts: &mut [u16])
     requires distinct { AreDistinct atoms.now }
     requires apart { AreApart atoms.now }
@@ -108,16 +108,16 @@ fn step_each(more: bool, atoms: &[u16], counts: &mut [u16])
 {
     let mut start = 0;
     while start < atoms.len() {
-        let end = stretch_end(atoms, start);
+        let end = interval_end(atoms, start);
         let first = atoms[start] as usize;
-        step_stretch(more, first, first + (end - start), counts);
+        step_interval(more, first, first + (end - start), counts);
         start = end;
     }
 }
 
 /// The numbers from a place on and before another become one more, or one less.
-#[tactic(auto, using(crate::proofs::StretchLemmas::none_from, crate::proofs::StretchLemmas::one_from))]
-fn step_stretch(more: bool, first: usize, past: usize, counts: &mut [u16])
+#[tactic(auto, using(crate::proofs::IntervalLemmas::none_from, crate::proofs::IntervalLemmas::one_from))]
+fn step_interval(more: bool, first: usize, past: usize, counts: &mut [u16])
     requires order { first ≤ past }
     requires within { past ≤ length counts.old }
     ensures { AreSteppedFrom more first past counts.old counts.new }

@@ -1,6 +1,6 @@
 ghost use Rattle.std.specs.Prelude.{◌≡◌, ◌↔◌, IsTrue};
 
-use tf_states::{Failure, Payload, What};
+use tf_states::{Payload, What};
 
 /// Whether two events are equal.
 pub fn same_event(event: &What, other: &What) -> bool
@@ -41,29 +41,6 @@ fn same_payload(payload: &Payload, other: &Payload) -> bool
     match payload {
         Payload::Empty => matches!(other, Payload::Empty),
         Payload::Value(value) => matches!(other, Payload::Value(other) if value.same(other)),
-        Payload::Fault(fault) =>
-            matches!(other, Payload::Fault(other) if same_failure(fault, other)),
-    }
-}
-
-/// Whether two failures are equal.
-fn same_failure(fault: &Failure, other: &Failure) -> bool
-    ensures { IsTrue result ↔ (fault.now ≡ other.now) }
-{
-    match fault {
-        Failure::Raised(text) => {
-            matches!(other, Failure::Raised(other) if text.bytes() == other.bytes())
-        }
-        Failure::WrongKind(name) => matches!(other, Failure::WrongKind(other) if *name == *other),
-        Failure::Overflow => matches!(other, Failure::Overflow),
-        Failure::Range => matches!(other, Failure::Range),
-        Failure::TooLong => matches!(other, Failure::TooLong),
-        Failure::Lookup(name) => matches!(other, Failure::Lookup(other) if *name == *other),
-        Failure::Exit(status) => matches!(other, Failure::Exit(other) if *status == *other),
-        Failure::Spawn => matches!(other, Failure::Spawn),
-        Failure::NotText => matches!(other, Failure::NotText),
-        Failure::Lost => matches!(other, Failure::Lost),
-        Failure::BadReply(len) => matches!(other, Failure::BadReply(other) if *len == *other),
-        Failure::Exhausted => matches!(other, Failure::Exhausted),
+        Payload::Fault(fault) => matches!(other, Payload::Fault(other) if fault.same(other)),
     }
 }

@@ -8,8 +8,7 @@ use crate::compiled::Compiled;
 use crate::tables::Tables;
 use std::alloc::Global;
 use tf_actions::{Action, Order};
-use tf_flow::Undo;
-use tf_values::{Memory, Texts};
+use tf_values::Memory;
 
 /// The order to do so with a task at this moment.
 pub fn order(
@@ -26,8 +25,8 @@ pub fn order(
 {
     let task = compiled.task(atom);
     let given = compiled.given(alloc, &tables.views, atom, action)?;
-    let words = copy_texts(alloc, &task.words)?;
-    let undo = copy_undo(alloc, &task.undo)?;
+    let words = task.words.copy(alloc)?;
+    let undo = task.undo.copy(alloc)?;
     Ok(Order {
         atom,
         action,
@@ -36,26 +35,4 @@ pub fn order(
         undo,
         given,
     })
-}
-
-/// An equal undo.
-fn copy_undo(alloc: Global, undo: &Undo) -> Result<Undo, Memory>
-    ensures { IfOk result (λ copy. copy ≡ undo.now) }
-{
-    match undo {
-        Undo::Pass => Ok(Undo::Pass),
-        Undo::Fail => Ok(Undo::Fail),
-        Undo::Run(words) => Ok(Undo::Run(copy_texts(alloc, words)?)),
-    }
-}
-
-/// Equal texts.
-fn copy_texts(alloc: Global, texts: &Texts) -> Result<Texts, Memory>
-    ensures { IfOk result (λ copies. copies ≡ texts.now) }
-{
-    let mut copies = Vec::with_capacity(alloc, texts.items().len())?;
-    for text in texts.items() {
-        copies.push(text.copy(alloc)?)?;
-    }
-    Ok(Texts::make(copies))
 }

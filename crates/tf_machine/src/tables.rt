@@ -208,7 +208,8 @@ impl Tables {
         ensures state { (a : ℕ) → (shown_by self.new).state a
             ≡ state_after (atom_enters atom state payload) a ((shown_by self.old).state a) }
         ensures payload { (a : ℕ) → (shown_by self.new).payload a
-            ≡ payload_after (atom_enters atom state payload) a ((shown_by self.old).state a) ((shown_by self.old).payload a) }
+            ≡ payload_after (atom_enters atom state payload) a ((shown_by self.old).state a)
+            ((shown_by self.old).payload a) }
         ensures hand { (a : ℕ)
             → (shown_by self.new).hand a ≡ (if nat_eq atom a then hand else (shown_by self.old).hand a) }
         ensures mark { (a : ℕ) → (shown_by self.new).mark a ≡ (shown_by self.old).mark a }

@@ -11,16 +11,16 @@ ghost use Rattle.tf_machine.specs.Cases as specs;
 ghost use Rattle.tf_machine.specs.Cases.{is_asked_again};
 ghost use Rattle.tf_machine.specs.declared.cases.Case.{Case as AnyCase};
 ghost use Rattle.tf_machine.specs.Compiled.{IsSpanAround};
-ghost use Rattle.tf_machine.specs.Stretches.{AreApart};
+ghost use Rattle.tf_machine.specs.Intervals.{AreApart};
 ghost use Rattle.tf_machine.specs.Worklists.{IsListed, ListedAt, SameAt, HasRoom, AreMoved, AreMarksHeld, IsMovedAt, IsListedWithin, AreRelisted, is_reached, counts_in, event};
 
 use crate::candidates::is_candidate;
 use crate::cases::{case_at, is_asked_again};
 use crate::compiled::{Compiled, Span};
 use crate::forcing::are_unhurt;
+use crate::intervals::{interval_end, next_zero};
 use crate::readiness::can_run;
 use crate::states::{is_done, is_revert_failure, is_running, is_settled};
-use crate::stretches::{next_zero, stretch_end};
 use crate::tables::Tables;
 use std::alloc::Global;
 use tf_links::Bits;
@@ -171,7 +171,7 @@ impl Worklist {
         self.hurt = self.hurt | is_revert_failure(state);
     }
 
-    /// Where they may be reached, lists those of these atoms that are. Those side by side are passed in one stretch.
+    /// Where they may be reached, lists those of these atoms that are. Those side by side are passed in one interval.
     #[tactic(auto, using(crate::proofs::ListedLemmas::none_so_far, crate::proofs::ListedLemmas::all_so_far, crate::proofs::WorkLemmas::moved_none))]
     fn list_each(
         &mut self,
@@ -199,15 +199,15 @@ impl Worklist {
         }
         let mut start = 0;
         while start < atoms.len() {
-            let end = stretch_end(atoms, start);
+            let end = interval_end(atoms, start);
             let first = atoms[start] as usize;
-            self.list_stretch(compiled, tables, reach, first, first + (end - start));
+            self.list_interval(compiled, tables, reach, first, first + (end - start));
             start = end;
         }
     }
 
     /// Lists those that may be reached of the atoms from one on and before another.
-    fn list_stretch(
+    fn list_interval(
         &mut self,
         compiled: &Compiled,
         tables: &Tables,

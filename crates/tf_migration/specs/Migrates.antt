@@ -1,4 +1,5 @@
--- What a migration comes to: what becomes of the files, what is said, and the status. Histories have the newest entry first.
+-- What a migration comes to: what becomes of the files, what is said, and the status. Histories have the newest entry
+-- first.
 use Rattle.std.specs.Prelude.{◌≡◌, ◌≢◌, ◌⊎◌, ℕ, IsTrue, List, [], ◌++◌, length, codes, Option, Some, ◌∷◌, ◌+◌, ◌<◌, ◌≤◌}
 use Rattle.std.specs.Fmt.{decimal}
 use Rattle.tf_numbers.specs.Numbers.{Rises}
@@ -23,7 +24,8 @@ abbrev pub old_bodies : PlanValue → List Entry → List (List ℕ)
 old_bodies plan [] = plan_bytes plan ∷ []
 old_bodies plan (e ∷ past) = old_bodies plan past ++ entry_bytes e ∷ []
 
--- the elements of a book of several flows that holds it alone: a detail of its plan, and each entry of its history, which is of detail 0
+-- the elements of a book of several flows that holds it alone: a detail of its plan, and each entry of its history,
+-- which is of detail 0
 abbrev pub carried : PlanValue → List Entry → List Element
 carried plan [] = detail plan ∷ []
 carried plan (e ∷ past) = entry_of 0 e ∷ carried plan past
@@ -60,10 +62,12 @@ HoldsNoFlow found = (found ≡ unborn) ⊎ (found ≡ bodies [])
 
 -- ---- where it is refused
 
--- the body can't come after these: as the first it is no plan that can run, or after a plan and a history it is no entry that may follow
+-- the body can't come after these: as the first it is no plan that can run, or after a plan and a history it is no
+-- entry that may follow
 pub data CannotFollow (before : List (List ℕ)) (body : List ℕ) : Type 0 where
   first : before ≡ [] → IsNoPlan body → CannotFollow before body
-  later : (plan : PlanValue) (past : List Entry) → IsHistoryOf plan past → before ≡ old_bodies plan past → IsNoStep plan past body → CannotFollow before body
+  later : (plan : PlanValue) (past : List Entry) → IsHistoryOf plan past → before ≡ old_bodies plan past
+      → IsNoStep plan past body → CannotFollow before body
 
 -- the file is no book of one flow: it is no journal of that title, or one of its bodies can't come
 abbrev pub IsNoBook : Recovered → ℕ → Option ℕ → Type 0
@@ -83,7 +87,8 @@ Finds not_yet held found = found ≡ unborn
 Finds whole held found = found ≡ bodies held
 Finds either held found = (found ≡ unborn) ⊎ (found ≡ bodies held)
 
--- one of the bodies is the first that doesn't fit: the journal of those before it has that size, and so much more is needed, which passes the greatest size
+-- one of the bodies is the first that doesn't fit: the journal of those before it has that size, and so much more is
+-- needed, which passes the greatest size
 pub record IsFullFor (held : List (List ℕ)) (size need : ℕ) : Type 0 where
   pub before : List (List ℕ)
   pub body : List ℕ
@@ -94,7 +99,8 @@ pub record IsFullFor (held : List (List ℕ)) (size need : ℕ) : Type 0 where
   pub fits : size ≤ SIZE_LIMIT
   pub over : SIZE_LIMIT < size + need
 
--- a sync answered Ok at that moment, the first since the file of that name was picked; these marks are those of the call from before the pick
+-- a sync answered Ok at that moment, the first since the file of that name was picked; these marks are those of the
+-- call from before the pick
 pub record IsFirstSync (name : List ℕ) (before : List Mark) (entry now : DeskState) (moment : ℕ) : Type 0 where
   pub picked : ℕ
   pub more : List Mark
@@ -121,7 +127,8 @@ migrated_text entries = codes "migrated " ++ decimal entries ++ codes " entries\
 pub data IsUnreadFor (told : Type 0) (old : Recovered) : List ℕ → ℕ → Type 0 where
   unread_no_memory : IsUnreadFor told old [] OUT_OF_MEMORY
   unread_failed : IsUnreadFor told old disk_fault_text DISK_FAILED
-  no_book : (offset : ℕ) (byte : Option ℕ) → (told → IsNoBook old offset byte) → IsUnreadFor told old (not_a_book offset byte) NO_BOOK
+  no_book : (offset : ℕ) (byte : Option ℕ) → (told → IsNoBook old offset byte)
+      → IsUnreadFor told old (not_a_book offset byte) NO_BOOK
   no_flow : (told → HoldsNoFlow old) → IsUnreadFor told old no_flow_text FORBIDDEN
 
 -- the new book wasn't begun: memory ran out, the disk failed, or its file isn't unborn
@@ -130,15 +137,18 @@ pub data IsUnbegunFor (told : Type 0) (new : Recovered) : List ℕ → ℕ → T
   unbegun_failed : IsUnbegunFor told new disk_fault_text DISK_FAILED
   exists : (told → new ≢ unborn) → IsUnbegunFor told new exists_text FORBIDDEN
 
--- the new book was begun: it is whole, a body of it didn't fit and its file is still unborn, or the disk failed and it is one or the other
+-- the new book was begun: it is whole, a body of it didn't fit and its file is still unborn, or the disk failed and it
+-- is one or the other
 pub data IsBegunFor (plan : PlanValue) (past : List Entry) : Left → List ℕ → ℕ → Type 0 where
   migrated : IsBegunFor plan past whole (migrated_text (length past)) SUCCEEDED
-  filled : (size need : ℕ) → IsFullFor (new_bodies plan past) size need → IsBegunFor plan past not_yet (book_full size need) FULL
+  filled : (size need : ℕ) → IsFullFor (new_bodies plan past) size need
+      → IsBegunFor plan past not_yet (book_full size need) FULL
   write_failed : IsBegunFor plan past either disk_fault_text DISK_FAILED
 
 -- ---- what becomes of the files
 
--- no file changed; a crash since the call's start leaves the file of that name as it was, and a prefix of the message shown
+-- no file changed; a crash since the call's start leaves the file of that name as it was, and a prefix of the message
+-- shown
 pub record StaysAlone (name : List ℕ) (entry now : DeskState) (message : List ℕ) : Type 0 where
   pub file : file_of now name ≡ file_of entry name
   pub others : (other : List ℕ) → other ≢ name → now.content.files other ≡ entry.content.files other
@@ -150,7 +160,8 @@ pub record OthersStay (old new : List ℕ) (entry now : DeskState) : Type 0 wher
   pub old_file : file_of now old ≡ file_of entry old
   pub others : (other : List ℕ) → other ≢ old → other ≢ new → now.content.files other ≡ entry.content.files other
 
--- the old book's file as it was; or the new one's, as a crash at entry might leave it, empty where it was missing, or an image that holds so
+-- the old book's file as it was; or the new one's, as a crash at entry might leave it, empty where it was missing, or
+-- an image that holds so
 abbrev pub IsOneOf : (old new : List ℕ) → DeskState → (List ℕ → Type 0) → List ℕ → Type 0
 IsOneOf old new entry holds image = (image ≡ file_of entry old) ⊎ (entry.left new image ⊎ ((image ≡ []) ⊎ holds image))
 
@@ -160,28 +171,34 @@ LeavesOneOf old new entry now holds message =
     (moment : ℕ) → IsStart old entry now moment → (image text : List ℕ) → now.crashes moment image text
     → IsOneOf old new entry holds image × ShowsPrefix entry.shown message (Some text)
 
--- no file changed; a crash since the first sync of the new book's file leaves that as it was, and a prefix of the message shown; the marks are those of the
--- reading of the old book
+-- no file changed; a crash since the first sync of the new book's file leaves that as it was, and a prefix of the
+-- message shown; the marks are those of the reading of the old book
 pub record StaysUnbegun (old new : List ℕ) (entry now : DeskState) (message : List ℕ) : Type 0 where
   pub stay : OthersStay old new entry now
   pub file : file_of now new ≡ file_of entry new
   pub read : List Mark
-  pub crash : (moment : ℕ) → IsFirstSync new read entry now moment → (image text : List ℕ) → now.crashes moment image text
+  pub crash : (moment : ℕ) → IsFirstSync new read entry now moment → (image text : List ℕ)
+      → now.crashes moment image text
       → (image ≡ file_of entry new) × ShowsPrefix entry.shown message (Some text)
   pub meanwhile : LeavesOneOf old new entry now (λ image. ⊥) message
 
--- so much of the new book is there, now and after each later crash; a crash since the first sync of its file leaves that unborn and nothing said, or so much
--- of the book and a prefix of the message shown; no other file changed; the marks are those of the reading of the old book
-pub record Lasts (old new : List ℕ) (held : List (List ℕ)) (left : Left) (entry now : DeskState) (message : List ℕ) : Type 0 where
+-- so much of the new book is there, now and after each later crash; a crash since the first sync of its file leaves
+-- that unborn and nothing said, or so much of the book and a prefix of the message shown; no other file changed; the
+-- marks are those of the reading of the old book
+pub record Lasts (old new : List ℕ) (held : List (List ℕ)) (left : Left) (entry now : DeskState)
+    (message : List ℕ) : Type 0 where
   pub stay : OthersStay old new entry now
   pub file : Finds left held (new_at now new)
   pub picked : now.content.picked ≡ Some new
   pub later : (image : List ℕ) → MayLeave now image → Finds left held (new_in image)
   pub read : List Mark
   pub synced : (moment : ℕ) × IsFirstSync new read entry now moment
-  pub crash : (moment : ℕ) → IsFirstSync new read entry now moment → (image text : List ℕ) → now.crashes moment image text
-      → ((new_in image ≡ unborn) × (entry.shown ≡ Some text)) ⊎ (Finds left held (new_in image) × ShowsPrefix entry.shown message (Some text))
-  pub meanwhile : LeavesOneOf old new entry now (λ image. (new_in image ≡ unborn) ⊎ Finds left held (new_in image)) message
+  pub crash : (moment : ℕ) → IsFirstSync new read entry now moment → (image text : List ℕ)
+      → now.crashes moment image text
+      → ((new_in image ≡ unborn) × (entry.shown ≡ Some text))
+      ⊎ (Finds left held (new_in image) × ShowsPrefix entry.shown message (Some text))
+  pub meanwhile : LeavesOneOf old new entry now
+      (λ image. (new_in image ≡ unborn) ⊎ Finds left held (new_in image)) message
 
 -- ---- how a migration goes
 
@@ -193,13 +210,15 @@ pub data Migrates (old new : List ℕ) (entry now : DeskState) (status : ℕ) : 
       → (IsTrue entry.tells → StaysAlone old entry now message)
       → Migrates old new entry now status
   -- it gave its flow; the new book wasn't begun, and no file was written
-  unbegun : (plan : PlanValue) (past : List Entry) (message : List ℕ) (wanted : ℕ) → (IsTrue entry.tells → HoldsFlow plan past (old_at entry old))
+  unbegun : (plan : PlanValue) (past : List Entry) (message : List ℕ) (wanted : ℕ)
+      → (IsTrue entry.tells → HoldsFlow plan past (old_at entry old))
       → IsUnbegunFor (IsTrue entry.tells) (new_at entry new) message wanted
       → ClosesWithOrStops entry.shown message wanted now.shown status
       → (IsTrue entry.tells → StaysUnbegun old new entry now message)
       → Migrates old new entry now status
   -- it gave its flow; the new book's file was unborn, and the book was begun; where memory ran out it is unborn still
-  begun : (plan : PlanValue) (past : List Entry) (left : Left) (message : List ℕ) (wanted : ℕ) → (IsTrue entry.tells → HoldsFlow plan past (old_at entry old))
+  begun : (plan : PlanValue) (past : List Entry) (left : Left) (message : List ℕ) (wanted : ℕ)
+      → (IsTrue entry.tells → HoldsFlow plan past (old_at entry old))
       → (IsTrue entry.tells → new_at entry new ≡ unborn)
       → IsBegunFor plan past left message wanted
       → (status ≡ OUT_OF_MEMORY → left ≡ not_yet)
@@ -209,7 +228,8 @@ pub data Migrates (old new : List ℕ) (entry now : DeskState) (status : ℕ) : 
 
 -- ---- when a status comes
 
--- nobody is asked for a stop, no count falls, and the disk failed, and a text couldn't be said, only where the count of such faults rose
+-- nobody is asked for a stop, no count falls, and the disk failed, and a text couldn't be said, only where the count of
+-- such faults rose
 pub record HasCauses (old new : DeskState) (status : ℕ) : Type 0 where
   pub extends : Extends anything old new
   pub unasked : IsUnasked old new

@@ -20,7 +20,8 @@ use Rattle.tf_migration.specs.declared.reading.OldFault.TheVariants as fault
 
 -- ---- body by body
 
--- just these bodies were read: they are those of a plan and a history, which make a legal book of several flows; its bodies are kept
+-- just these bodies were read: they are those of a plan and a history, which make a legal book of several flows; its
+-- bodies are kept
 pub record HasReadFlow (flow : Flow) (bodies : List (List ℕ)) : Type 0 where
   pub plan : PlanValue
   pub past : List Entry
@@ -48,13 +49,15 @@ abbrev pub desk_read : {K A F : Type 0} → Result (K × A) (K × F) → K
 desk_read (Ok found) = found.0
 desk_read (Err back) = back.0
 
--- all bodies of a journal were read: they are those of a plan and a history, and the bodies that these have in a book of several flows are kept
+-- all bodies of a journal were read: they are those of a plan and a history, and the bodies that these have in a book
+-- of several flows are kept
 pub record HasReadAllOf {K : Type 0} (state : K → DeskState) (journal : Held K) (kept : List (List ℕ)) : Type 0 where
   pub plan : PlanValue
   pub past : List Entry
   pub kept_are : kept ≡ new_bodies plan past
   pub legal : IsLegalBook (carried plan past)
-  pub whole : IsTrue (state journal.desk).tells → (held : List (List ℕ)) → HasBodies state journal held → held ≡ old_bodies plan past
+  pub whole : IsTrue (state journal.desk).tells → (held : List (List ℕ)) → HasBodies state journal held
+      → held ≡ old_bodies plan past
 
 -- the bodies are those that a flow has in a book of several; where the desk tells, the file holds that flow
 pub record HasFlow (told : Type 0) (found : Recovered) (kept : List (List ℕ)) : Type 0 where
@@ -64,21 +67,24 @@ pub record HasFlow (told : Type 0) (found : Recovered) (kept : List (List ℕ)) 
   pub holds : told → HoldsFlow plan past found
   pub legal : IsLegalBook (carried plan past)
 
--- why nothing was read to carry over: what the fault says of the file is so; a fault of the disk and want of memory say nothing of it
+-- why nothing was read to carry over: what the fault says of the file is so; a fault of the disk and want of memory say
+-- nothing of it
 abbrev pub RefusesOld : OldFault → Recovered → Type 0
 RefusesOld fault.Disk found = Unit {0}
 RefusesOld fault.Memory found = Unit {0}
 RefusesOld (fault.NotABook offset byte) found = IsNoBook found offset byte
 RefusesOld fault.NoFlow found = HoldsNoFlow found
 
--- nothing was read to carry over: the file of that name is as it was, what the fault says of it is so, and the disk's comes only where the count of them rose
+-- nothing was read to carry over: the file of that name is as it was, what the fault says of it is so, and the disk's
+-- comes only where the count of them rose
 pub record IsUnread (name : List ℕ) (why : OldFault) (entry now : DeskState) : Type 0 where
   pub on_disk : OnDisk anything entry now
   pub untouched : Untouched name entry now
   pub refused : IsTrue entry.tells → RefusesOld why (old_at entry name)
   pub cause : why ≡ fault.Disk → Rises entry.disk_faults now.disk_faults
 
--- a flow was read, and the file of that name is as it was; of each file a crash now leaves nothing that it couldn't leave before, but for no bytes where it was missing
+-- a flow was read, and the file of that name is as it was; of each file a crash now leaves nothing that it couldn't
+-- leave before, but for no bytes where it was missing
 pub record IsRead (name : List ℕ) (kept : List (List ℕ)) (entry now : DeskState) : Type 0 where
   pub on_disk : OnDisk anything entry now
   pub untouched : Untouched name entry now

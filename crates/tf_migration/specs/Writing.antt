@@ -80,7 +80,8 @@ FailsToWrite held fault.Exists old new = ⊥
 
 -- ---- the file of a name
 
--- a crash while the file of that name is picked leaves the file that was picked before, or that one: as a crash might leave it before, or empty where it was missing
+-- a crash while the file of that name is picked leaves the file that was picked before, or that one: as a crash might
+-- leave it before, or empty where it was missing
 abbrev pub IsLeftByPick : List ℕ → DeskState → List ℕ → Type 0
 IsLeftByPick name entry image = MayLeave entry image ⊎ (entry.left name image ⊎ (image ≡ []))
 
@@ -91,15 +92,18 @@ LeavesByPick name entry image text = IsLeftByPick name entry image × (entry.sho
 -- the same while a book is made in it: also unborn, or as it is left
 abbrev pub LeavesByMaking : List ℕ → List (List ℕ) → Left → DeskState → Pairs
 LeavesByMaking name held left entry image text =
-    (IsLeftByPick name entry image ⊎ ((new_in image ≡ unborn) ⊎ Finds left held (new_in image))) × (entry.shown ≡ Some text)
+    (IsLeftByPick name entry image ⊎ ((new_in image ≡ unborn) ⊎ Finds left held (new_in image)))
+    × (entry.shown ≡ Some text)
 
--- the file was unborn, and so much is there of a book with these bodies; since the call's start a crash leaves the file unborn, or with so much
+-- the file was unborn, and so much is there of a book with these bodies; since the call's start a crash leaves the file
+-- unborn, or with so much
 pub record IsMade (name : List ℕ) (held : List (List ℕ)) (left : Left) (entry now : DeskState) : Type 0 where
   pub on_disk : OnDisk anything entry now
   pub was_unborn : IsTrue entry.tells → new_at entry name ≡ unborn
   pub set : IsTrue entry.tells → IsSet name entry now
   pub synced : IsTrue entry.tells → (moment : ℕ) × IsFirstSync name [] entry now moment
-  pub path : IsTrue entry.tells → Path name entry now (LeavesOnce left held entry.shown) (λ image. Finds left held (new_in image))
+  pub path : IsTrue entry.tells → Path name entry now (LeavesOnce left held entry.shown)
+      (λ image. Finds left held (new_in image))
   pub file : IsTrue entry.tells → Finds left held (new_at now name)
   pub passes : IsTrue entry.tells → Passes (LeavesByMaking name held left entry) entry now
 
@@ -110,15 +114,18 @@ pub record IsKept (name : List ℕ) (entry now : DeskState) : Type 0 where
   pub passes : IsTrue entry.tells → Passes (LeavesByPick name entry) entry now
   pub left : IsTrue entry.tells → (image : List ℕ) → MayLeave now image → IsLeftByPick name entry image
 
--- why it isn't there whole: the disk failed, before anything was written or after that; the file isn't unborn; a body doesn't fit; or memory ran out
+-- why it isn't there whole: the disk failed, before anything was written or after that; the file isn't unborn; a body
+-- doesn't fit; or memory ran out
 abbrev pub FailsToMake : List ℕ → List (List ℕ) → NewFault → DeskState → DeskState → Type 0
-FailsToMake name held fault.Disk entry now = Rises entry.disk_faults now.disk_faults × (IsKept name entry now ⊎ IsMade name held either entry now)
+FailsToMake name held fault.Disk entry now =
+    Rises entry.disk_faults now.disk_faults × (IsKept name entry now ⊎ IsMade name held either entry now)
 FailsToMake name held fault.Exists entry now = IsKept name entry now × (IsTrue entry.tells → new_at entry name ≢ unborn)
 FailsToMake name held (fault.Full size need) entry now = IsMade name held not_yet entry now × IsFullFor held size need
 FailsToMake name held fault.Memory entry now = IsKept name entry now
 
 -- it is there whole, or it isn't
-abbrev pub Makes : {K : Type 0} → (K → DeskState) → List ℕ → List (List ℕ) → DeskState → Result K (K × NewFault) → Type 0
+abbrev pub Makes : {K : Type 0} → (K → DeskState) → List ℕ → List (List ℕ) → DeskState → Result K (K × NewFault)
+    → Type 0
 Makes state name held entry (Ok desk) = IsMade name held whole entry (state desk)
 Makes state name held entry (Err back) = FailsToMake name held back.1 entry (state back.0)
 

@@ -61,7 +61,8 @@ turn_before flows g (Some u) (Some v) below = if nat_eq u v then below else item
 abbrev pub path_before : List Flow → List Turn → List Turn → Bool
 path_before flows [] other = false
 path_before flows (x ∷ xs) [] = false
-path_before flows (x ∷ xs) (y ∷ ys) = nat_eq x.flow y.flow && turn_before flows x.flow x.item y.item (path_before flows xs ys)
+path_before flows (x ∷ xs) (y ∷ ys) =
+    nat_eq x.flow y.flow && turn_before flows x.flow x.item y.item (path_before flows xs ys)
 
 -- what stands at a number: a task, a retry controller, or nothing
 abbrev pub part_at : List Atom → ℕ → Option Part
@@ -135,7 +136,8 @@ is_unserved atoms inner g v a symbol = not (any_below (length atoms) (serves_ins
 
 -- what atom a takes and no atom before it in the item provides
 abbrev pub needs_of_atom : List Atom → List Flow → ℕ → ℕ → ℕ → List (List ℕ)
-needs_of_atom atoms inner g v a = filter (is_unserved atoms inner g v a) (option_map_or taken_symbols (part_at atoms a) [])
+needs_of_atom atoms inner g v a =
+    filter (is_unserved atoms inner g v a) (option_map_or taken_symbols (part_at atoms a) [])
 
 -- the symbols that an item needs: those that its atoms take and that no atom before them in the item provides
 abbrev pub needs : List Atom → List Flow → ℕ → ℕ → List (List ℕ)
@@ -176,7 +178,8 @@ explicit place = pairs_below (length place.items) (is_explicit place)
 
 -- an item that reaches v by the explicit links provides the symbol
 abbrev pub reaches_with : List Atom → FlowPlace → List ℕ → ℕ → ℕ → Bool
-reaches_with atoms place symbol v w = has_pair (reached (length place.items) (explicit place)) w v && item_provides atoms place.number symbol w
+reaches_with atoms place symbol v w =
+    has_pair (reached (length place.items) (explicit place)) w v && item_provides atoms place.number symbol w
 
 -- no link to v is made for the symbol: the flow's retry controller provides it, or an item that
 -- reaches v by explicit links does
@@ -191,7 +194,8 @@ other_provides atoms place v symbol u = not (nat_eq u v) && item_provides atoms 
 -- the other items that provide a symbol, where it asks for a link to v
 abbrev pub givers : List Atom → FlowPlace → ℕ → List ℕ → List ℕ
 givers atoms place v symbol =
-    if is_served atoms place v symbol then [] else which_below (length place.items) (other_provides atoms place v symbol)
+    if is_served atoms place v symbol then []
+    else which_below (length place.items) (other_provides atoms place v symbol)
 
 -- the list has this number alone
 abbrev pub is_only : ℕ → List ℕ → Bool
@@ -213,7 +217,8 @@ is_linked atoms inner place u v = is_explicit place u v || is_inferred atoms inn
 
 -- the linked pairs of a flow's items; only a graph flow has any
 abbrev pub linked_pairs : List Atom → List Flow → FlowPlace → List Pair
-linked_pairs atoms inner place = if is_graph place.kind then pairs_below (length place.items) (is_linked atoms inner place) else []
+linked_pairs atoms inner place =
+    if is_graph place.kind then pairs_below (length place.items) (is_linked atoms inner place) else []
 
 -- which item comes before which: the one that stands earlier in a linear flow, none in an unordered
 -- one, and the one that reaches the other by links in a graph flow

@@ -253,7 +253,8 @@ is_done_at s a = is_done (s.state a)
 -- not RUNNING, REVERTING or FAILURE, and not SUCCESS where the mark is REVERT
 abbrev pub is_at_rest : Snapshot → ℕ → Bool
 is_at_rest s a =
-    not (is_at_work (s.state a)) && (not (is_failure (s.state a)) && not (is_success (s.state a) && is_to_revert (s.mark a)))
+    not (is_at_work (s.state a)) &&
+    (not (is_failure (s.state a)) && not (is_success (s.state a) && is_to_revert (s.mark a)))
 
 -- how a run ends that nothing is forced in: SUCCESS where every atom is SUCCESS or IGNORE; else REVERTED
 -- where there is no candidate and every atom is at rest
@@ -268,5 +269,6 @@ calm_end plan s =
 unfoldable pub end_of : Outline → Snapshot → Option FlowState
 end_of plan s =
     if flow_runs s.flow || flow_suspends s.flow then
-    (if is_unhurt plan s then (if is_none (forced_if_running plan s) then calm_end plan s else None) else Some flow.Failure)
+    (if is_unhurt plan s then (if is_none (forced_if_running plan s) then calm_end plan s else None)
+    else Some flow.Failure)
     else None

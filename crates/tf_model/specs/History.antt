@@ -120,7 +120,8 @@ held_after state held was before = held
 
 -- the payload of atom a after an entry, where the atom was in that state: that of its last entry
 abbrev pub payload_after : What → ℕ → AtomState → Payload → Payload
-payload_after (what.Atom entered state held) a was before = if nat_eq entered a then held_after state held was before else before
+payload_after (what.Atom entered state held) a was before =
+    if nat_eq entered a then held_after state held was before else before
 payload_after (what.Flow state) a was before = before
 payload_after (what.Resolve named resolved) a was before = before
 payload_after (what.Restart again) a was before = before
@@ -160,8 +161,10 @@ begun_again own (Some mark) = if is_retry_of own mark then None else Some mark
 -- enters RUNNING clears the marks of its own flow's resolve to run again; and a flow that becomes PENDING
 -- clears all marks
 unfoldable pub mark_after : Outline → What → ℕ → Option Resolve → Option Resolve
-mark_after plan (what.Resolve named resolved) a before = if holds plan named a then Some (record { flow = named; kind = resolved }) else before
-mark_after plan (what.Atom entered atom.Running held) a before = if is_retry plan entered then begun_again (own_flow plan entered) before else before
+mark_after plan (what.Resolve named resolved) a before =
+    if holds plan named a then Some (record { flow = named; kind = resolved }) else before
+mark_after plan (what.Atom entered atom.Running held) a before =
+    if is_retry plan entered then begun_again (own_flow plan entered) before else before
 mark_after plan (what.Atom entered state held) a before = before
 mark_after plan (what.Flow flow.Pending) a before = None
 mark_after plan (what.Flow state) a before = before

@@ -91,12 +91,14 @@ pub record StoppedAfter (before entries : List Entry) (last : FlowState) : Type 
 
 -- a run that stopped recorded nothing, where the flow had ended, or that
 abbrev pub IsWholeRun : List Entry → List Entry → FlowState → Type 0
-IsWholeRun before entries last = ((has_ended (flow_of before) ≡ true) × (entries ≡ [])) ⊎ StoppedAfter before entries last
+IsWholeRun before entries last =
+    ((has_ended (flow_of before) ≡ true) × (entries ≡ [])) ⊎ StoppedAfter before entries last
 
 -- of the items of each flow, one that comes before a second that comes before a third comes before the
 -- third, and none comes before itself
 pub record AreOrdered (flows : List Flow) : Type 0 where
-  pub transitive : (g u v w : ℕ) → item_before flows g u v ≡ true → item_before flows g v w ≡ true → item_before flows g u w ≡ true
+  pub transitive : (g u v w : ℕ) → item_before flows g u v ≡ true → item_before flows g v w ≡ true
+      → item_before flows g u w ≡ true
   pub irreflexive : (g u : ℕ) → item_before flows g u u ≡ false
 
 -- the flow's name
@@ -129,7 +131,8 @@ resolves_atom plan a e = resolves_over plan a e.what
 abbrev pub ends_mark : Outline → Resolve → What → Bool
 ends_mark plan mark (what.Flow flow.Pending) = true
 ends_mark plan mark (what.Flow state) = false
-ends_mark plan mark (what.Atom entered atom.Running held) = is_retry plan entered && is_retry_of (own_flow plan entered) mark
+ends_mark plan mark (what.Atom entered atom.Running held) =
+    is_retry plan entered && is_retry_of (own_flow plan entered) mark
 ends_mark plan mark (what.Atom entered state held) = false
 ends_mark plan mark (what.Resolve named resolved) = false
 ends_mark plan mark (what.Restart again) = false

@@ -28,7 +28,8 @@ pub record Outline : Type 0 where
 
 -- the outline of atoms and flows
 abbrev pub outline_with : List Atom → List FlowPlace → List Bind → Bool → Outline
-outline_with atoms places store defer = record { atoms = atoms; flows = arranged atoms places; store = store; defer = defer }
+outline_with atoms places store defer =
+    record { atoms = atoms; flows = arranged atoms places; store = store; defer = defer }
 
 -- the outline of a tree
 abbrev pub outline_of_tree : Tree → List Bind → Bool → Outline
@@ -163,13 +164,15 @@ cycle_of f = first_cycle f.place (length f.place.items) f.linked
 
 -- a graph flow is looked at for an ambiguous symbol, and then for a cycle
 abbrev pub refusal_of : List Atom → List Flow → Flow → Option CompileRefusal
-refusal_of atoms inner f = if is_graph f.place.kind then option_or (ambiguity atoms inner f.place) (cycle_of f) else None
+refusal_of atoms inner f =
+    if is_graph f.place.kind then option_or (ambiguity atoms inner f.place) (cycle_of f) else None
 
 -- the refusal of flow g, which is looked at beside those that come later in tree order, among which are
 -- the ones nested in it
 abbrev pub refusal_among : List Atom → ℕ → List Flow → Option CompileRefusal
 refusal_among atoms g [] = None
-refusal_among atoms g (f ∷ inner) = if has_flow_number g f then refusal_of atoms inner f else refusal_among atoms g inner
+refusal_among atoms g (f ∷ inner) =
+    if has_flow_number g f then refusal_of atoms inner f else refusal_among atoms g inner
 
 -- the refusal of flow g of a plan
 abbrev pub refusal_at : Outline → ℕ → Option CompileRefusal

@@ -55,7 +55,8 @@ lets_revert plan s a b = not (is_before plan a b) || is_settled (s.state b)
 
 -- a is SUCCESS or FAILURE, its mark isn't EXECUTE, and every atom after it is settled
 unfoldable pub can_revert : Outline → Snapshot → ℕ → Bool
-can_revert plan s a = (is_executed (s.state a) && not (is_unmarked s a)) && all_below (count plan) (lets_revert plan s a)
+can_revert plan s a =
+    (is_executed (s.state a) && not (is_unmarked s a)) && all_below (count plan) (lets_revert plan s a)
 
 -- ---- when a task is refused, and what is ignored then
 
@@ -206,7 +207,8 @@ linked_places linked (Some u) (Some w) = has_pair linked u w
 
 -- a link of v's own flow leads from v to a
 abbrev pub is_neighbor : Outline → ℕ → ℕ → Bool
-is_neighbor plan v a = is_sibling plan v a && linked_places (home plan v).linked (last_item (path plan v)) (last_item (path plan a))
+is_neighbor plan v a =
+    is_sibling plan v a && linked_places (home plan v).linked (last_item (path plan v)) (last_item (path plan a))
 
 -- what a refused v ignores besides itself: all atoms after it; the tasks of its own flow that are after
 -- it; the tasks that a link leads to from it; or nothing

@@ -37,7 +37,8 @@ retry_kind plan r = option_and_then kind_of_part (part_at plan.atoms r)
 -- the argument of a name
 abbrev pub argument_named : List Pair → List ℕ → Option Val
 argument_named [] name = None
-argument_named (argument ∷ others) name = if same_name argument.name name then Some argument.value else argument_named others name
+argument_named (argument ∷ others) name =
+    if same_name argument.name name then Some argument.value else argument_named others name
 
 -- an attempt without an item fails
 abbrev pub item_or_exhausted : Option Val → Payload
@@ -160,7 +161,8 @@ resolved defer here outer p kind.Revert =
 -- the resolution by the retry controllers around a failure, the nearest first
 abbrev pub resolution_by : Outline → Snapshot → List Controlled → Resolve
 resolution_by plan s [] = revert_all
-resolution_by plan s (here ∷ outer) = resolved plan.defer here outer (resolution_by plan s outer) (answer plan s here.retry)
+resolution_by plan s (here ∷ outer) =
+    resolved plan.defer here outer (resolution_by plan s outer) (answer plan s here.retry)
 
 -- what a failure of atom a is resolved to
 unfoldable pub resolution : Outline → Snapshot → ℕ → Resolve

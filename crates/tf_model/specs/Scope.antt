@@ -75,7 +75,8 @@ item_at v k = None
 -- what the names of a list of names take from a result, by their places
 abbrev pub part_given : List (List ℕ) → Val → List ℕ → ℕ → Option Val
 part_given [] result symbol k = None
-part_given (name ∷ names) result symbol k = if same_name name symbol then item_at result k else part_given names result symbol (suc k)
+part_given (name ∷ names) result symbol k =
+    if same_name name symbol then item_at result k else part_given names result symbol (suc k)
 
 -- the value that a result gives a symbol
 abbrev pub given_by_result : Provides → Val → List ℕ → Option Val
@@ -91,13 +92,15 @@ given_by_payload gives (payload.Fault fault) symbol = None
 
 -- the value that atom b gives a symbol, where it is SUCCESS
 abbrev pub given_by : Outline → Snapshot → List ℕ → ℕ → Option Val
-given_by plan s symbol b = if is_success (s.state b) then given_by_payload (provides_of plan b) (s.payload b) symbol else None
+given_by plan s symbol b =
+    if is_success (s.state b) then given_by_payload (provides_of plan b) (s.payload b) symbol else None
 
 -- a symbol's value for y: y's inject, else the store's value, else what the first member gives that gives
 -- one; where there is none, the symbol is missing
 unfoldable pub symbol_value : Outline → Snapshot → ℕ → List ℕ → Option Val
 symbol_value plan s y symbol =
-    option_or (bound (injects plan y) symbol) (option_or (bound plan.store symbol) (first_some (given_by plan s symbol) (members plan y)))
+    option_or (bound (injects plan y) symbol)
+    (option_or (bound plan.store symbol) (first_some (given_by plan s symbol) (members plan y)))
 
 -- one more argument before the others
 abbrev pub with_argument : Arg → Val → Given → Given
@@ -112,7 +115,8 @@ or_missing arg (Some v) others = with_argument arg v others
 -- the arguments with their values, or the first symbol that is missing
 abbrev pub given_arguments : Outline → Snapshot → ℕ → List Arg → Given
 given_arguments plan s a [] = given.Found []
-given_arguments plan s a (arg ∷ args) = or_missing arg (symbol_value plan s a arg.symbol) (given_arguments plan s a args)
+given_arguments plan s a (arg ∷ args) =
+    or_missing arg (symbol_value plan s a arg.symbol) (given_arguments plan s a args)
 
 -- the value, or Nothing
 abbrev pub or_nothing : Option Val → Val
@@ -137,11 +141,13 @@ pub record Missing : Type 0 where
 -- the symbol has an inject, a value of the store, or a member that lists it
 abbrev pub has_source : Outline → ℕ → List ℕ → Bool
 has_source plan a symbol =
-    is_among (bind_symbols (injects plan a)) symbol || (is_among (bind_symbols plan.store) symbol || list_any (lists_symbol plan symbol) (members plan a))
+    is_among (bind_symbols (injects plan a)) symbol
+    || (is_among (bind_symbols plan.store) symbol || list_any (lists_symbol plan symbol) (members plan a))
 
 -- the argument's symbol, where nobody gives it
 abbrev pub missing_argument : Outline → ℕ → Arg → Option Missing
-missing_argument plan a arg = if has_source plan a arg.symbol then None else Some (record { atom = atom_name plan a; symbol = arg.symbol })
+missing_argument plan a arg =
+    if has_source plan a arg.symbol then None else Some (record { atom = atom_name plan a; symbol = arg.symbol })
 
 -- the first such argument of atom a
 abbrev pub missing_of : Outline → ℕ → Option Missing
@@ -164,7 +170,8 @@ task_at plan a = option_and_then task_part (part_at plan.atoms a)
 
 -- the order to do so with task a, which is t, and these arguments
 abbrev pub order_with : ℕ → Action → Given → Task → Order
-order_with a how arguments t = record { atom = a; action = how; kind = t.kind; words = t.words; undo = t.undo; given = arguments }
+order_with a how arguments t =
+    record { atom = a; action = how; kind = t.kind; words = t.words; undo = t.undo; given = arguments }
 
 -- the order to do so with a at this moment, where it is a task
 unfoldable pub order_of : Outline → Snapshot → ℕ → Action → Option Order
@@ -199,12 +206,16 @@ IsUnasked (Some order) = ⊥
 -- an end of a task carries an outcome that the order of its last start may have: a value, a failure, or nothing
 -- where it was reverted
 abbrev pub IsGiven : (Order → Outcome → Type 0) → Outline → List Entry → What → Type 0
-IsGiven gives plan past (what.Atom a atom.Success (payload.Value result)) = Allows gives (order_at plan past a action.Execute) (outcome.Gave result)
+IsGiven gives plan past (what.Atom a atom.Success (payload.Value result)) =
+    Allows gives (order_at plan past a action.Execute) (outcome.Gave result)
 IsGiven gives plan past (what.Atom a atom.Success other) = IsUnasked (order_at plan past a action.Execute)
-IsGiven gives plan past (what.Atom a atom.Failure (payload.Fault fault)) = Allows gives (order_at plan past a action.Execute) (outcome.Failed fault)
+IsGiven gives plan past (what.Atom a atom.Failure (payload.Fault fault)) =
+    Allows gives (order_at plan past a action.Execute) (outcome.Failed fault)
 IsGiven gives plan past (what.Atom a atom.Failure other) = IsUnasked (order_at plan past a action.Execute)
-IsGiven gives plan past (what.Atom a atom.Reverted held) = Allows gives (order_at plan past a action.Revert) (outcome.Gave value.Nothing)
-IsGiven gives plan past (what.Atom a atom.RevertFailure (payload.Fault fault)) = Allows gives (order_at plan past a action.Revert) (outcome.Failed fault)
+IsGiven gives plan past (what.Atom a atom.Reverted held) =
+    Allows gives (order_at plan past a action.Revert) (outcome.Gave value.Nothing)
+IsGiven gives plan past (what.Atom a atom.RevertFailure (payload.Fault fault)) =
+    Allows gives (order_at plan past a action.Revert) (outcome.Failed fault)
 IsGiven gives plan past (what.Atom a atom.RevertFailure other) = IsUnasked (order_at plan past a action.Revert)
 IsGiven gives plan past other = Unit {0}
 

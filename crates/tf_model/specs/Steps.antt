@@ -44,7 +44,8 @@ ends_as from to held = false
 
 -- the hand ends a task that it has in flight, while the flow is RUNNING or SUSPENDING
 unfoldable pub ends_task : Snapshot → ℕ → What → Bool
-ends_task s hand (what.Atom a state held) = (flow_runs s.flow || flow_suspends s.flow) && (is_number (s.hand a) hand && ends_as (s.state a) state held)
+ends_task s hand (what.Atom a state held) =
+    (flow_runs s.flow || flow_suspends s.flow) && (is_number (s.hand a) hand && ends_as (s.state a) state held)
 ends_task s hand (what.Flow state) = false
 ends_task s hand (what.Resolve named resolved) = false
 ends_task s hand (what.Restart again) = false
@@ -172,16 +173,21 @@ is_inner_entry e = is_inner e.what
 -- stopped, or None where it was halted before that
 pub data Session (plan : Outline) (before : List Entry) : List Entry → Option FlowState → Type 0 where
   -- the flow had ended already, and nothing is recorded
-  already_ended : has_ended (flow_of before) ≡ true → LegalPast plan before → Session plan before [] (Some (flow_of before))
+  already_ended : has_ended (flow_of before) ≡ true → LegalPast plan before
+      → Session plan before [] (Some (flow_of before))
   -- it was halted while it entered, after some of the entries that it enters with
-  entered : (some others : List Entry) → entering (flow_of before) ≡ some ++ others → LegalPast plan (reverse some ++ before)
+  entered : (some others : List Entry) → entering (flow_of before) ≡ some ++ others
+      → LegalPast plan (reverse some ++ before)
       → Session plan before (reverse some) None
   -- it entered a flow that hadn't ended, and was halted
   halted : (inner : List Entry) → has_ended (flow_of before) ≡ false → list_all is_inner_entry inner ≡ true
       → LegalPast plan (inner ++ (reverse (entering (flow_of before)) ++ before))
       → Session plan before (inner ++ reverse (entering (flow_of before))) None
   -- it entered, and stopped in a last state
-  whole : (hand : ℕ) (last : FlowState) (inner : List Entry) → is_last last ≡ true → list_all is_inner_entry inner ≡ true
+  whole : (hand : ℕ) (last : FlowState) (inner : List Entry) → is_last last ≡ true
+      → list_all is_inner_entry inner ≡ true
       → has_ended (flow_of before) ≡ false
-      → LegalPast plan (record { hand = hand; what = what.Flow last } ∷ (inner ++ (reverse (entering (flow_of before)) ++ before)))
-      → Session plan before (record { hand = hand; what = what.Flow last } ∷ (inner ++ reverse (entering (flow_of before)))) (Some last)
+      → LegalPast plan
+      (record { hand = hand; what = what.Flow last } ∷ (inner ++ (reverse (entering (flow_of before)) ++ before)))
+      → Session plan before
+      (record { hand = hand; what = what.Flow last } ∷ (inner ++ reverse (entering (flow_of before)))) (Some last)

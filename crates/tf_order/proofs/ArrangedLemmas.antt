@@ -11,7 +11,7 @@ use Rattle.tf_links.specs.Bits.{has}
 use Rattle.tf_links.specs.Links.{leads}
 use Rattle.tf_links.proofs.LinkLemmas.{row_zero}
 use Rattle.tf_order.specs.Arranged.{comes_before, IsShownAt, ShowsFlows}
-use Rattle.tf_order.specs.Stretches.{IsSteady, stands_later}
+use Rattle.tf_order.specs.Intervals.{IsSteady, stands_later}
 
 order_of : (shown : Option (Option Arranged)) (o : Option Flow) (flow : Arranged) (u v : ℕ) → IsShownAt shown o → shown ≡ Some (Some flow) → comes_before flow u v ≡ has_pair (order_in o) u v
 order_of None o flow u v is some = absurd (cc)

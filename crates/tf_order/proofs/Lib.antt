@@ -2,7 +2,7 @@ pub mod GraphLemmas
 pub mod IndexLemmas
 pub mod PathLemmas
 pub mod ArrangedLemmas
-pub mod SightLemmas
+pub mod ContextLemmas
 pub mod LinkingLemmas
 pub mod TurnLemmas
 pub mod ExplicitLemmas
@@ -10,7 +10,7 @@ pub mod StandingAtomLemmas
 pub mod AmbiguityLemmas
 pub mod LookLemmas
 pub mod CompilationLemmas
-pub mod StretchLemmas
+pub mod IntervalLemmas
 pub mod TableLemmas
 pub mod SpreadLemmas
 pub mod DirectLemmas

@@ -16,21 +16,21 @@ use Rattle.tf_model.specs.Plan.{CompileRefusal, lesser, least, name_less, are_se
 use Rattle.tf_numbers.proofs.TruthLemmas.{and_first, and_second, or_either, true_first, true_second, true_both, same_truth, neither_second, neither_first}
 use Rattle.tf_numbers.proofs.PairLemmas.{pair_passes, passes_pair}
 use Rattle.tf_order.specs.declared.arranged.Arranged.{Arranged}
-use Rattle.tf_order.specs.declared.sight.Sight.{Sight}
+use Rattle.tf_order.specs.declared.context.Context.{Context}
 use Rattle.tf_order.specs.Arranged.{comes_by, IsArranged, ShowsFlows}
 use Rattle.tf_links.specs.Bits.{has, room, words_for}
 use Rattle.tf_links.specs.Links.{leads, LinksValue, AreLinks, AreReached}
 use Rattle.tf_order.specs.Looked.{arranged_seen, refusal_seen}
-use Rattle.tf_order.specs.Sight.{atoms_seen, place_seen, count_seen, LinksBy}
+use Rattle.tf_order.specs.Context.{atoms_seen, place_seen, count_seen, LinksBy}
 use Rattle.tf_numbers.proofs.BelowLemmas.{none_at, found_passes, first_before}
 use Rattle.tf_order.proofs.LinkingLemmas.{giver_below}
-use Rattle.tf_order.proofs.SightLemmas.{length_items}
+use Rattle.tf_order.proofs.ContextLemmas.{length_items}
 use Rattle.tf_numbers.proofs.OptionLemmas.{or_none}
 
 -- ---- a flow without links
 
-pub no_pairs : (sight : Sight) (inner : List Flow) → is_graph (place_seen sight).kind ≡ false → linked_pairs (atoms_seen sight) inner (place_seen sight) ≡ []
-no_pairs sight inner plain = ap (λ (b : Bool). if b then pairs_below (length (place_seen sight).items) (is_linked (atoms_seen sight) inner (place_seen sight)) else []) plain
+pub no_pairs : (context : Context) (inner : List Flow) → is_graph (place_seen context).kind ≡ false → linked_pairs (atoms_seen context) inner (place_seen context) ≡ []
+no_pairs context inner plain = ap (λ (b : Bool). if b then pairs_below (length (place_seen context).items) (is_linked (atoms_seen context) inner (place_seen context)) else []) plain
 
 pub none_linked : (links : LinksValue) → ((u v : ℕ) → leads links.rows u v ≡ false) → AreLinks links []
 none_linked links none = record { same = none; first = λ u v on. absurd (cc); second = λ u v on. absurd (cc) }
@@ -43,19 +43,19 @@ plain_order kind.Linear count n links reach linked u v plain same = same_truth (
     passes_pair n nat_lt u v (omega (arith, earlier, below, same)) (omega (arith, below, same)) (and_first (nat_lt u v) (nat_lt v count) on))
     (λ on. let passes = pair_passes n nat_lt u v on in true_both (nat_lt u v) (nat_lt v count) passes.tested (lt-ltb v count (omega (arith, passes.second, same))))
 
-pub plain_arranged : (sight : Sight) (flow : Arranged) → is_graph (place_seen sight).kind ≡ false → flow.kind ≡ (place_seen sight).kind → flow.links.count ≡ count_seen sight → ((u v : ℕ) → leads flow.links.rows u v ≡ false)
-    → ((inner : List Flow) (pairs : List Pair) → ShowsFlows sight.table.now inner → AreLinks flow.links pairs → flow.standing.items ≡ standing_atoms inner (place_seen sight) pairs)
-    → (inner : List Flow) → ShowsFlows sight.table.now inner → IsArranged flow (arranged_seen sight inner)
-plain_arranged sight flow plain same count none standing inner shows = record {
+pub plain_arranged : (context : Context) (flow : Arranged) → is_graph (place_seen context).kind ≡ false → flow.kind ≡ (place_seen context).kind → flow.links.count ≡ count_seen context → ((u v : ℕ) → leads flow.links.rows u v ≡ false)
+    → ((inner : List Flow) (pairs : List Pair) → ShowsFlows context.table.now inner → AreLinks flow.links pairs → flow.standing.items ≡ standing_atoms inner (place_seen context) pairs)
+    → (inner : List Flow) → ShowsFlows context.table.now inner → IsArranged flow (arranged_seen context inner)
+plain_arranged context flow plain same count none standing inner shows = record {
   kind = same;
   order = λ u v. ap (λ (k : FlowKind). comes_by k flow.links.count flow.reach.items u v) same
-      ∙ plain_order (place_seen sight).kind flow.links.count (length (place_seen sight).items) flow.links flow.reach.items (linked_pairs (atoms_seen sight) inner (place_seen sight)) u v plain (count ∙ sym (length_items sight));
-  linked = λ u v. none u v ∙ sym (ap (λ (ps : List Pair). has_pair ps u v) (no_pairs sight inner plain));
-  standing = standing inner [] shows (none_linked flow.links none) ∙ ap (standing_atoms inner (place_seen sight)) (sym (no_pairs sight inner plain));
+      ∙ plain_order (place_seen context).kind flow.links.count (length (place_seen context).items) flow.links flow.reach.items (linked_pairs (atoms_seen context) inner (place_seen context)) u v plain (count ∙ sym (length_items context));
+  linked = λ u v. none u v ∙ sym (ap (λ (ps : List Pair). has_pair ps u v) (no_pairs context inner plain));
+  standing = standing inner [] shows (none_linked flow.links none) ∙ ap (standing_atoms inner (place_seen context)) (sym (no_pairs context inner plain));
 }
 
-pub plain_refusal : (sight : Sight) (inner : List Flow) → is_graph (place_seen sight).kind ≡ false → None ≡ refusal_seen sight inner
-plain_refusal sight inner plain = sym (ap (λ (b : Bool). if b then option_or (ambiguity (atoms_seen sight) inner (place_seen sight)) (cycle_of (arranged_seen sight inner)) else None) plain)
+pub plain_refusal : (context : Context) (inner : List Flow) → is_graph (place_seen context).kind ≡ false → None ≡ refusal_seen context inner
+plain_refusal context inner plain = sym (ap (λ (b : Bool). if b then option_or (ambiguity (atoms_seen context) inner (place_seen context)) (cycle_of (arranged_seen context inner)) else None) plain)
 
 -- ---- the links of a graph flow
 
@@ -64,51 +64,51 @@ only_within u [] is = absurd (cc)
 only_within u (x ∷ []) is = true_first (nat_eq u x) false is
 only_within u (x ∷ y ∷ ys) is = absurd (cc)
 
-some_inferred : (sight : Sight) (u v : ℕ) (symbols : List (List ℕ)) → list_any (is_inferred_by (atoms_seen sight) (place_seen sight) u v) symbols ≡ true → u < count_seen sight
-some_inferred sight u v [] on = absurd (cc)
-some_inferred sight u v (x ∷ xs) on = elim (or_either (is_inferred_by (atoms_seen sight) (place_seen sight) u v x) _ on) [
-  | inl here ↦ giver_below sight v x (givers (atoms_seen sight) (place_seen sight) v x) u refl (only_within u (givers (atoms_seen sight) (place_seen sight) v x) here)
-  | inr there ↦ some_inferred sight u v xs there
+some_inferred : (context : Context) (u v : ℕ) (symbols : List (List ℕ)) → list_any (is_inferred_by (atoms_seen context) (place_seen context) u v) symbols ≡ true → u < count_seen context
+some_inferred context u v [] on = absurd (cc)
+some_inferred context u v (x ∷ xs) on = elim (or_either (is_inferred_by (atoms_seen context) (place_seen context) u v x) _ on) [
+  | inl here ↦ giver_below context v x (givers (atoms_seen context) (place_seen context) v x) u refl (only_within u (givers (atoms_seen context) (place_seen context) v x) here)
+  | inr there ↦ some_inferred context u v xs there
 ]
 
-pub graph_links : (sight : Sight) (inner : List Flow) (old new : LinksValue) (ambiguities_old ambiguities : List ℕ) → is_graph (place_seen sight).kind ≡ true → old.count ≡ count_seen sight → new.count ≡ count_seen sight → AreLinks old (explicit (place_seen sight))
-    → LinksBy sight (needs (atoms_seen sight) inner (place_seen sight).number) old ambiguities_old new ambiguities → AreLinks new (linked_pairs (atoms_seen sight) inner (place_seen sight))
-graph_links sight inner old new ambiguities_old ambiguities graph old_count new_count are is = subst (AreLinks new) (sym (ap (λ (b : Bool). if b then pairs_below (length (place_seen sight).items) (is_linked (atoms_seen sight) inner (place_seen sight)) else []) graph)) (record {
-  same = λ u v. is.links u v ∙ (ap (λ (b : Bool). b || (nat_lt v (count_seen sight) && is_inferred (atoms_seen sight) inner (place_seen sight) u v)) (are.same u v) ∙ told u v);
-  first = λ u v on. let passes = pair_passes (length (place_seen sight).items) (is_linked (atoms_seen sight) inner (place_seen sight)) u v on in omega (arith, passes.first, new_count, length_items sight);
-  second = λ u v on. let passes = pair_passes (length (place_seen sight).items) (is_linked (atoms_seen sight) inner (place_seen sight)) u v on in omega (arith, passes.second, new_count, length_items sight);
+pub graph_links : (context : Context) (inner : List Flow) (old new : LinksValue) (ambiguities_old ambiguities : List ℕ) → is_graph (place_seen context).kind ≡ true → old.count ≡ count_seen context → new.count ≡ count_seen context → AreLinks old (explicit (place_seen context))
+    → LinksBy context (needs (atoms_seen context) inner (place_seen context).number) old ambiguities_old new ambiguities → AreLinks new (linked_pairs (atoms_seen context) inner (place_seen context))
+graph_links context inner old new ambiguities_old ambiguities graph old_count new_count are is = subst (AreLinks new) (sym (ap (λ (b : Bool). if b then pairs_below (length (place_seen context).items) (is_linked (atoms_seen context) inner (place_seen context)) else []) graph)) (record {
+  same = λ u v. is.links u v ∙ (ap (λ (b : Bool). b || (nat_lt v (count_seen context) && is_inferred (atoms_seen context) inner (place_seen context) u v)) (are.same u v) ∙ told u v);
+  first = λ u v on. let passes = pair_passes (length (place_seen context).items) (is_linked (atoms_seen context) inner (place_seen context)) u v on in omega (arith, passes.first, new_count, length_items context);
+  second = λ u v on. let passes = pair_passes (length (place_seen context).items) (is_linked (atoms_seen context) inner (place_seen context)) u v on in omega (arith, passes.second, new_count, length_items context);
 })
   where
-    told : (u v : ℕ) → (has_pair (explicit (place_seen sight)) u v || (nat_lt v (count_seen sight) && is_inferred (atoms_seen sight) inner (place_seen sight) u v)) ≡ has_pair (pairs_below (length (place_seen sight).items) (is_linked (atoms_seen sight) inner (place_seen sight))) u v
-    told u v = same_truth (has_pair (explicit (place_seen sight)) u v || (nat_lt v (count_seen sight) && is_inferred (atoms_seen sight) inner (place_seen sight) u v)) (has_pair (pairs_below (length (place_seen sight).items) (is_linked (atoms_seen sight) inner (place_seen sight))) u v)
-        (λ on. elim (or_either (has_pair (explicit (place_seen sight)) u v) (nat_lt v (count_seen sight) && is_inferred (atoms_seen sight) inner (place_seen sight) u v) on) [
-          | inl written ↦ let passes = pair_passes (length (place_seen sight).items) (is_explicit (place_seen sight)) u v written in
-              passes_pair (length (place_seen sight).items) (is_linked (atoms_seen sight) inner (place_seen sight)) u v passes.first passes.second (true_first (is_explicit (place_seen sight) u v) (is_inferred (atoms_seen sight) inner (place_seen sight) u v) passes.tested)
+    told : (u v : ℕ) → (has_pair (explicit (place_seen context)) u v || (nat_lt v (count_seen context) && is_inferred (atoms_seen context) inner (place_seen context) u v)) ≡ has_pair (pairs_below (length (place_seen context).items) (is_linked (atoms_seen context) inner (place_seen context))) u v
+    told u v = same_truth (has_pair (explicit (place_seen context)) u v || (nat_lt v (count_seen context) && is_inferred (atoms_seen context) inner (place_seen context) u v)) (has_pair (pairs_below (length (place_seen context).items) (is_linked (atoms_seen context) inner (place_seen context))) u v)
+        (λ on. elim (or_either (has_pair (explicit (place_seen context)) u v) (nat_lt v (count_seen context) && is_inferred (atoms_seen context) inner (place_seen context) u v) on) [
+          | inl written ↦ let passes = pair_passes (length (place_seen context).items) (is_explicit (place_seen context)) u v written in
+              passes_pair (length (place_seen context).items) (is_linked (atoms_seen context) inner (place_seen context)) u v passes.first passes.second (true_first (is_explicit (place_seen context) u v) (is_inferred (atoms_seen context) inner (place_seen context) u v) passes.tested)
           | inr found ↦
-              let inferred : is_inferred (atoms_seen sight) inner (place_seen sight) u v ≡ true = and_second (nat_lt v (count_seen sight)) _ found in
-              let first : u < count_seen sight = some_inferred sight u v (needs (atoms_seen sight) inner (place_seen sight).number v) inferred in
-              let second : v < count_seen sight = ltb-true v (count_seen sight) (and_first (nat_lt v (count_seen sight)) _ found) in
-              passes_pair (length (place_seen sight).items) (is_linked (atoms_seen sight) inner (place_seen sight)) u v (omega (arith, first, length_items sight)) (omega (arith, second, length_items sight)) (true_second (is_explicit (place_seen sight) u v) (is_inferred (atoms_seen sight) inner (place_seen sight) u v) inferred)
+              let inferred : is_inferred (atoms_seen context) inner (place_seen context) u v ≡ true = and_second (nat_lt v (count_seen context)) _ found in
+              let first : u < count_seen context = some_inferred context u v (needs (atoms_seen context) inner (place_seen context).number v) inferred in
+              let second : v < count_seen context = ltb-true v (count_seen context) (and_first (nat_lt v (count_seen context)) _ found) in
+              passes_pair (length (place_seen context).items) (is_linked (atoms_seen context) inner (place_seen context)) u v (omega (arith, first, length_items context)) (omega (arith, second, length_items context)) (true_second (is_explicit (place_seen context) u v) (is_inferred (atoms_seen context) inner (place_seen context) u v) inferred)
         ])
-        (λ on. let passes = pair_passes (length (place_seen sight).items) (is_linked (atoms_seen sight) inner (place_seen sight)) u v on in
-        elim (or_either (is_explicit (place_seen sight) u v) (is_inferred (atoms_seen sight) inner (place_seen sight) u v) passes.tested) [
-          | inl written ↦ true_first (has_pair (explicit (place_seen sight)) u v) _ (passes_pair (length (place_seen sight).items) (is_explicit (place_seen sight)) u v passes.first passes.second written)
-          | inr inferred ↦ true_second (has_pair (explicit (place_seen sight)) u v) _ (true_both (nat_lt v (count_seen sight)) _ (lt-ltb v (count_seen sight) (omega (arith, passes.second, length_items sight))) inferred)
+        (λ on. let passes = pair_passes (length (place_seen context).items) (is_linked (atoms_seen context) inner (place_seen context)) u v on in
+        elim (or_either (is_explicit (place_seen context) u v) (is_inferred (atoms_seen context) inner (place_seen context) u v) passes.tested) [
+          | inl written ↦ true_first (has_pair (explicit (place_seen context)) u v) _ (passes_pair (length (place_seen context).items) (is_explicit (place_seen context)) u v passes.first passes.second written)
+          | inr inferred ↦ true_second (has_pair (explicit (place_seen context)) u v) _ (true_both (nat_lt v (count_seen context)) _ (lt-ltb v (count_seen context) (omega (arith, passes.second, length_items context))) inferred)
         ])
 
-pub graph_arranged : (sight : Sight) (flow : Arranged) → (place_seen sight).kind ≡ kind.Graph → flow.kind ≡ kind.Graph → flow.links.count ≡ count_seen sight
-    → ((inner : List Flow) → ShowsFlows sight.table.now inner → AreLinks flow.links (linked_pairs (atoms_seen sight) inner (place_seen sight)))
+pub graph_arranged : (context : Context) (flow : Arranged) → (place_seen context).kind ≡ kind.Graph → flow.kind ≡ kind.Graph → flow.links.count ≡ count_seen context
+    → ((inner : List Flow) → ShowsFlows context.table.now inner → AreLinks flow.links (linked_pairs (atoms_seen context) inner (place_seen context)))
     → ((pairs : List Pair) → AreLinks flow.links pairs → AreReached flow.links.count (reached flow.links.count pairs) flow.reach.items)
-    → ((inner : List Flow) (pairs : List Pair) → ShowsFlows sight.table.now inner → AreLinks flow.links pairs → flow.standing.items ≡ standing_atoms inner (place_seen sight) pairs)
-    → (inner : List Flow) → ShowsFlows sight.table.now inner → IsArranged flow (arranged_seen sight inner)
-graph_arranged sight flow graph same count links reach standing inner shows = record {
+    → ((inner : List Flow) (pairs : List Pair) → ShowsFlows context.table.now inner → AreLinks flow.links pairs → flow.standing.items ≡ standing_atoms inner (place_seen context) pairs)
+    → (inner : List Flow) → ShowsFlows context.table.now inner → IsArranged flow (arranged_seen context inner)
+graph_arranged context flow graph same count links reach standing inner shows = record {
   kind = same ∙ sym graph;
   order = λ u v. ap (λ (k : FlowKind). comes_by k flow.links.count flow.reach.items u v) same
-      ∙ ((reach (linked_pairs (atoms_seen sight) inner (place_seen sight)) (links inner shows)).same u v
-      ∙ (ap (λ (n : ℕ). has_pair (reached n (linked_pairs (atoms_seen sight) inner (place_seen sight))) u v) (count ∙ sym (length_items sight))
-      ∙ ap (λ (k : FlowKind). has_pair (item_order k (length (place_seen sight).items) (linked_pairs (atoms_seen sight) inner (place_seen sight))) u v) (sym graph)));
+      ∙ ((reach (linked_pairs (atoms_seen context) inner (place_seen context)) (links inner shows)).same u v
+      ∙ (ap (λ (n : ℕ). has_pair (reached n (linked_pairs (atoms_seen context) inner (place_seen context))) u v) (count ∙ sym (length_items context))
+      ∙ ap (λ (k : FlowKind). has_pair (item_order k (length (place_seen context).items) (linked_pairs (atoms_seen context) inner (place_seen context))) u v) (sym graph)));
   linked = (links inner shows).same;
-  standing = standing inner (linked_pairs (atoms_seen sight) inner (place_seen sight)) shows (links inner shows);
+  standing = standing inner (linked_pairs (atoms_seen context) inner (place_seen context)) shows (links inner shows);
 }
 
 -- what the written links reach is known of the same links
@@ -124,8 +124,8 @@ none_kept : (p : List ℕ → Bool) (xs : List (List ℕ)) → list_any p xs ≡
 none_kept p [] off = refl
 none_kept p (x ∷ xs) off = ap (λ (b : Bool). cond b (x ∷ filter p xs) (filter p xs)) (neither_first (p x) (list_any p xs) off) ∙ none_kept p xs (neither_second (p x) (list_any p xs) off)
 
-clear_item : (sight : Sight) (inner : List Flow) (v : ℕ) → list_any (is_ambiguous (atoms_seen sight) (place_seen sight) v) (needs (atoms_seen sight) inner (place_seen sight).number v) ≡ false → ambiguity_at (atoms_seen sight) inner (place_seen sight) v ≡ None
-clear_item sight inner v off = ap (λ (xs : List (List ℕ)). refuse_symbol (atoms_seen sight) (place_seen sight) v (least xs)) (none_kept (is_ambiguous (atoms_seen sight) (place_seen sight) v) (needs (atoms_seen sight) inner (place_seen sight).number v) off)
+clear_item : (context : Context) (inner : List Flow) (v : ℕ) → list_any (is_ambiguous (atoms_seen context) (place_seen context) v) (needs (atoms_seen context) inner (place_seen context).number v) ≡ false → ambiguity_at (atoms_seen context) inner (place_seen context) v ≡ None
+clear_item context inner v off = ap (λ (xs : List (List ℕ)). refuse_symbol (atoms_seen context) (place_seen context) v (least xs)) (none_kept (is_ambiguous (atoms_seen context) (place_seen context) v) (needs (atoms_seen context) inner (place_seen context).number v) off)
 
 all_kept : (p : List ℕ → Bool) (xs : List (List ℕ)) → list_all p (filter p xs) ≡ true
 all_kept p [] = refl
@@ -171,11 +171,11 @@ several_refused place symbol [] is = absurd (cc)
 several_refused place symbol (x ∷ []) is = absurd (cc)
 several_refused place symbol (x ∷ y ∷ ys) is = refl
 
-ambiguous_item : (sight : Sight) (inner : List Flow) (v : ℕ) → list_any (is_ambiguous (atoms_seen sight) (place_seen sight) v) (needs (atoms_seen sight) inner (place_seen sight).number v) ≡ true → is_some (ambiguity_at (atoms_seen sight) inner (place_seen sight) v) ≡ true
-ambiguous_item sight inner v on =
-    let found = some_kept (is_ambiguous (atoms_seen sight) (place_seen sight) v) (needs (atoms_seen sight) inner (place_seen sight).number v) on in
-    ap (λ (o : Option (List ℕ)). is_some (refuse_symbol (atoms_seen sight) (place_seen sight) v o)) found.is
-    ∙ several_refused (place_seen sight) found.symbol (givers (atoms_seen sight) (place_seen sight) v found.symbol) found.passes
+ambiguous_item : (context : Context) (inner : List Flow) (v : ℕ) → list_any (is_ambiguous (atoms_seen context) (place_seen context) v) (needs (atoms_seen context) inner (place_seen context).number v) ≡ true → is_some (ambiguity_at (atoms_seen context) inner (place_seen context) v) ≡ true
+ambiguous_item context inner v on =
+    let found = some_kept (is_ambiguous (atoms_seen context) (place_seen context) v) (needs (atoms_seen context) inner (place_seen context).number v) on in
+    ap (λ (o : Option (List ℕ)). is_some (refuse_symbol (atoms_seen context) (place_seen context) v o)) found.is
+    ∙ several_refused (place_seen context) found.symbol (givers (atoms_seen context) (place_seen context) v found.symbol) found.passes
 
 or_chain : {X : Type 0} (a b c : Option X) → option_or a (option_or b c) ≡ option_or (option_or a b) c
 or_chain None b c = refl
@@ -203,47 +203,47 @@ first_given {Y = Y} give (suc n) k below is before = some_append give (numbers_b
 ]
 
 -- the ambiguities that were found are the items with an ambiguous symbol
-ambiguity_told : (sight : Sight) (inner : List Flow) (old new : LinksValue) (ambiguities_old ambiguities : List ℕ) (v : ℕ) → ((k : ℕ) → has ambiguities_old k ≡ false) → LinksBy sight (needs (atoms_seen sight) inner (place_seen sight).number) old ambiguities_old new ambiguities
-    → has ambiguities v ≡ (nat_lt v (count_seen sight) && list_any (is_ambiguous (atoms_seen sight) (place_seen sight) v) (needs (atoms_seen sight) inner (place_seen sight).number v))
-ambiguity_told sight inner old new ambiguities_old ambiguities v none is = is.ambiguities v ∙ ap (λ (b : Bool). b || (nat_lt v (count_seen sight) && list_any (is_ambiguous (atoms_seen sight) (place_seen sight) v) (needs (atoms_seen sight) inner (place_seen sight).number v))) (none v)
+ambiguity_told : (context : Context) (inner : List Flow) (old new : LinksValue) (ambiguities_old ambiguities : List ℕ) (v : ℕ) → ((k : ℕ) → has ambiguities_old k ≡ false) → LinksBy context (needs (atoms_seen context) inner (place_seen context).number) old ambiguities_old new ambiguities
+    → has ambiguities v ≡ (nat_lt v (count_seen context) && list_any (is_ambiguous (atoms_seen context) (place_seen context) v) (needs (atoms_seen context) inner (place_seen context).number v))
+ambiguity_told context inner old new ambiguities_old ambiguities v none is = is.ambiguities v ∙ ap (λ (b : Bool). b || (nat_lt v (count_seen context) && list_any (is_ambiguous (atoms_seen context) (place_seen context) v) (needs (atoms_seen context) inner (place_seen context).number v))) (none v)
 
-graph_refused : (sight : Sight) (inner : List Flow) → is_graph (place_seen sight).kind ≡ true → refusal_seen sight inner ≡ option_or (ambiguity (atoms_seen sight) inner (place_seen sight)) (cycle_of (arranged_seen sight inner))
-graph_refused sight inner graph = ap (λ (b : Bool). if b then option_or (ambiguity (atoms_seen sight) inner (place_seen sight)) (cycle_of (arranged_seen sight inner)) else None) graph
+graph_refused : (context : Context) (inner : List Flow) → is_graph (place_seen context).kind ≡ true → refusal_seen context inner ≡ option_or (ambiguity (atoms_seen context) inner (place_seen context)) (cycle_of (arranged_seen context inner))
+graph_refused context inner graph = ap (λ (b : Bool). if b then option_or (ambiguity (atoms_seen context) inner (place_seen context)) (cycle_of (arranged_seen context inner)) else None) graph
 
 -- an item below the first ambiguous one is clear
-below_clear : (sight : Sight) (inner : List Flow) (old new : LinksValue) (ambiguities_old ambiguities : List ℕ) (v : ℕ) → ((k : ℕ) → has ambiguities_old k ≡ false) → LinksBy sight (needs (atoms_seen sight) inner (place_seen sight).number) old ambiguities_old new ambiguities → has ambiguities v ≡ false → v < count_seen sight
-    → ambiguity_at (atoms_seen sight) inner (place_seen sight) v ≡ None
-below_clear sight inner old new ambiguities_old ambiguities v none is off below = clear_item sight inner v
-    (sym (ap (λ (b : Bool). b && list_any (is_ambiguous (atoms_seen sight) (place_seen sight) v) (needs (atoms_seen sight) inner (place_seen sight).number v)) (lt-ltb v (count_seen sight) below)) ∙ (sym (ambiguity_told sight inner old new ambiguities_old ambiguities v none is) ∙ off))
+below_clear : (context : Context) (inner : List Flow) (old new : LinksValue) (ambiguities_old ambiguities : List ℕ) (v : ℕ) → ((k : ℕ) → has ambiguities_old k ≡ false) → LinksBy context (needs (atoms_seen context) inner (place_seen context).number) old ambiguities_old new ambiguities → has ambiguities v ≡ false → v < count_seen context
+    → ambiguity_at (atoms_seen context) inner (place_seen context) v ≡ None
+below_clear context inner old new ambiguities_old ambiguities v none is off below = clear_item context inner v
+    (sym (ap (λ (b : Bool). b && list_any (is_ambiguous (atoms_seen context) (place_seen context) v) (needs (atoms_seen context) inner (place_seen context).number v)) (lt-ltb v (count_seen context) below)) ∙ (sym (ambiguity_told context inner old new ambiguities_old ambiguities v none is) ∙ off))
 
-pub ambiguity_refused : (sight : Sight) (inner : List Flow) (old new : LinksValue) (ambiguities_old ambiguities : List ℕ) (item : ℕ) (told : Option CompileRefusal) → is_graph (place_seen sight).kind ≡ true → ((k : ℕ) → has ambiguities_old k ≡ false)
-    → LinksBy sight (needs (atoms_seen sight) inner (place_seen sight).number) old ambiguities_old new ambiguities → first_below (room ambiguities) (has ambiguities) ≡ Some item → told ≡ ambiguity_at (atoms_seen sight) inner (place_seen sight) item → told ≡ refusal_seen sight inner
-ambiguity_refused sight inner old new ambiguities_old ambiguities item told graph none is first told_is =
-    let on : nat_lt item (count_seen sight) && list_any (is_ambiguous (atoms_seen sight) (place_seen sight) item) (needs (atoms_seen sight) inner (place_seen sight).number item) ≡ true =
-    sym (ambiguity_told sight inner old new ambiguities_old ambiguities item none is) ∙ found_passes (room ambiguities) (has ambiguities) item first in
-    let below : item < count_seen sight = ltb-true item (count_seen sight) (and_first (nat_lt item (count_seen sight)) _ on) in
-    let some : is_some (ambiguity_at (atoms_seen sight) inner (place_seen sight) item) ≡ true = ambiguous_item sight inner item (and_second (nat_lt item (count_seen sight)) _ on) in
-    let whole : ambiguity (atoms_seen sight) inner (place_seen sight) ≡ ambiguity_at (atoms_seen sight) inner (place_seen sight) item =
-    first_given (ambiguity_at (atoms_seen sight) inner (place_seen sight)) (length (place_seen sight).items) item (omega (arith, below, length_items sight)) some
-    (λ j less. below_clear sight inner old new ambiguities_old ambiguities j none is (first_before (room ambiguities) (has ambiguities) item j first less) (omega (arith, below, less))) in
-    told_is ∙ sym (graph_refused sight inner graph ∙ (ap (λ (o : Option CompileRefusal). option_or o (cycle_of (arranged_seen sight inner))) whole ∙ kept_first (ambiguity_at (atoms_seen sight) inner (place_seen sight) item) (cycle_of (arranged_seen sight inner)) some))
+pub ambiguity_refused : (context : Context) (inner : List Flow) (old new : LinksValue) (ambiguities_old ambiguities : List ℕ) (item : ℕ) (told : Option CompileRefusal) → is_graph (place_seen context).kind ≡ true → ((k : ℕ) → has ambiguities_old k ≡ false)
+    → LinksBy context (needs (atoms_seen context) inner (place_seen context).number) old ambiguities_old new ambiguities → first_below (room ambiguities) (has ambiguities) ≡ Some item → told ≡ ambiguity_at (atoms_seen context) inner (place_seen context) item → told ≡ refusal_seen context inner
+ambiguity_refused context inner old new ambiguities_old ambiguities item told graph none is first told_is =
+    let on : nat_lt item (count_seen context) && list_any (is_ambiguous (atoms_seen context) (place_seen context) item) (needs (atoms_seen context) inner (place_seen context).number item) ≡ true =
+    sym (ambiguity_told context inner old new ambiguities_old ambiguities item none is) ∙ found_passes (room ambiguities) (has ambiguities) item first in
+    let below : item < count_seen context = ltb-true item (count_seen context) (and_first (nat_lt item (count_seen context)) _ on) in
+    let some : is_some (ambiguity_at (atoms_seen context) inner (place_seen context) item) ≡ true = ambiguous_item context inner item (and_second (nat_lt item (count_seen context)) _ on) in
+    let whole : ambiguity (atoms_seen context) inner (place_seen context) ≡ ambiguity_at (atoms_seen context) inner (place_seen context) item =
+    first_given (ambiguity_at (atoms_seen context) inner (place_seen context)) (length (place_seen context).items) item (omega (arith, below, length_items context)) some
+    (λ j less. below_clear context inner old new ambiguities_old ambiguities j none is (first_before (room ambiguities) (has ambiguities) item j first less) (omega (arith, below, less))) in
+    told_is ∙ sym (graph_refused context inner graph ∙ (ap (λ (o : Option CompileRefusal). option_or o (cycle_of (arranged_seen context inner))) whole ∙ kept_first (ambiguity_at (atoms_seen context) inner (place_seen context) item) (cycle_of (arranged_seen context inner)) some))
 
-pub cycle_refused : (sight : Sight) (inner : List Flow) (old new : LinksValue) (ambiguities_old ambiguities : List ℕ) (told : Option CompileRefusal) → (place_seen sight).kind ≡ kind.Graph → ((k : ℕ) → has ambiguities_old k ≡ false) → length ambiguities ≡ words_for (count_seen sight)
-    → LinksBy sight (needs (atoms_seen sight) inner (place_seen sight).number) old ambiguities_old new ambiguities → first_below (room ambiguities) (has ambiguities) ≡ None
-    → told ≡ first_cycle (place_seen sight) (count_seen sight) (linked_pairs (atoms_seen sight) inner (place_seen sight)) → told ≡ refusal_seen sight inner
-cycle_refused sight inner old new ambiguities_old ambiguities told graph none wide is nobody told_is =
-    let clear : ambiguity (atoms_seen sight) inner (place_seen sight) ≡ None =
-    none_given (ambiguity_at (atoms_seen sight) inner (place_seen sight)) (length (place_seen sight).items)
-    (λ k below. below_clear sight inner old new ambiguities_old ambiguities k none is (none_at (room ambiguities) (has ambiguities) k nobody (omega (arith, below, length_items sight, wide))) (omega (arith, below, length_items sight))) in
-    told_is ∙ (ap (λ (n : ℕ). first_cycle (place_seen sight) n (linked_pairs (atoms_seen sight) inner (place_seen sight))) (sym (length_items sight))
-    ∙ sym (graph_refused sight inner (ap is_graph graph) ∙ ap (λ (o : Option CompileRefusal). option_or o (cycle_of (arranged_seen sight inner))) clear))
+pub cycle_refused : (context : Context) (inner : List Flow) (old new : LinksValue) (ambiguities_old ambiguities : List ℕ) (told : Option CompileRefusal) → (place_seen context).kind ≡ kind.Graph → ((k : ℕ) → has ambiguities_old k ≡ false) → length ambiguities ≡ words_for (count_seen context)
+    → LinksBy context (needs (atoms_seen context) inner (place_seen context).number) old ambiguities_old new ambiguities → first_below (room ambiguities) (has ambiguities) ≡ None
+    → told ≡ first_cycle (place_seen context) (count_seen context) (linked_pairs (atoms_seen context) inner (place_seen context)) → told ≡ refusal_seen context inner
+cycle_refused context inner old new ambiguities_old ambiguities told graph none wide is nobody told_is =
+    let clear : ambiguity (atoms_seen context) inner (place_seen context) ≡ None =
+    none_given (ambiguity_at (atoms_seen context) inner (place_seen context)) (length (place_seen context).items)
+    (λ k below. below_clear context inner old new ambiguities_old ambiguities k none is (none_at (room ambiguities) (has ambiguities) k nobody (omega (arith, below, length_items context, wide))) (omega (arith, below, length_items context))) in
+    told_is ∙ (ap (λ (n : ℕ). first_cycle (place_seen context) n (linked_pairs (atoms_seen context) inner (place_seen context))) (sym (length_items context))
+    ∙ sym (graph_refused context inner (ap is_graph graph) ∙ ap (λ (o : Option CompileRefusal). option_or o (cycle_of (arranged_seen context inner))) clear))
 
-pub graph_refusal : (sight : Sight) (inner : List Flow) (old new : LinksValue) (ambiguities_old ambiguities : List ℕ) (told : Option CompileRefusal) (o : Option ℕ) → first_below (room ambiguities) (has ambiguities) ≡ o → (place_seen sight).kind ≡ kind.Graph → ((k : ℕ) → has ambiguities_old k ≡ false) → length ambiguities ≡ words_for (count_seen sight)
-    → LinksBy sight (needs (atoms_seen sight) inner (place_seen sight).number) old ambiguities_old new ambiguities
-    → ((item : ℕ) → first_below (room ambiguities) (has ambiguities) ≡ Some item → told ≡ ambiguity_at (atoms_seen sight) inner (place_seen sight) item)
-    → (first_below (room ambiguities) (has ambiguities) ≡ None → told ≡ first_cycle (place_seen sight) (count_seen sight) (linked_pairs (atoms_seen sight) inner (place_seen sight))) → told ≡ refusal_seen sight inner
-graph_refusal sight inner old new ambiguities_old ambiguities told (Some item) first graph none wide is ambiguity cycle_is = ambiguity_refused sight inner old new ambiguities_old ambiguities item told (ap is_graph graph) none is first (ambiguity item first)
-graph_refusal sight inner old new ambiguities_old ambiguities told None first graph none wide is ambiguity cycle_is = cycle_refused sight inner old new ambiguities_old ambiguities told graph none wide is first (cycle_is first)
+pub graph_refusal : (context : Context) (inner : List Flow) (old new : LinksValue) (ambiguities_old ambiguities : List ℕ) (told : Option CompileRefusal) (o : Option ℕ) → first_below (room ambiguities) (has ambiguities) ≡ o → (place_seen context).kind ≡ kind.Graph → ((k : ℕ) → has ambiguities_old k ≡ false) → length ambiguities ≡ words_for (count_seen context)
+    → LinksBy context (needs (atoms_seen context) inner (place_seen context).number) old ambiguities_old new ambiguities
+    → ((item : ℕ) → first_below (room ambiguities) (has ambiguities) ≡ Some item → told ≡ ambiguity_at (atoms_seen context) inner (place_seen context) item)
+    → (first_below (room ambiguities) (has ambiguities) ≡ None → told ≡ first_cycle (place_seen context) (count_seen context) (linked_pairs (atoms_seen context) inner (place_seen context))) → told ≡ refusal_seen context inner
+graph_refusal context inner old new ambiguities_old ambiguities told (Some item) first graph none wide is ambiguity cycle_is = ambiguity_refused context inner old new ambiguities_old ambiguities item told (ap is_graph graph) none is first (ambiguity item first)
+graph_refusal context inner old new ambiguities_old ambiguities told None first graph none wide is ambiguity cycle_is = cycle_refused context inner old new ambiguities_old ambiguities told graph none wide is first (cycle_is first)
 
 pub reach_as : (count other : ℕ) (pairs : List Pair) (rows same : List (List ℕ)) → AreReached count (reached count pairs) rows → count ≡ other → same ≡ rows → AreReached other (reached other pairs) same
 reach_as count other pairs rows same is counted shown = subst (λ (n : ℕ). AreReached n (reached n pairs) same) counted (subst (AreReached count (reached count pairs)) (sym shown) is)

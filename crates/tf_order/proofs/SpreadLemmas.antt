@@ -1,4 +1,4 @@
--- Rows that grow by stretches of numbers, and what tables tell of a plan.
+-- Rows that grow by intervals of numbers, and what tables tell of a plan.
 use Rattle.tf_flow.specs.Paths.{shown_part}
 use Rattle.std.proofs.Common.{◌≡◌, ◌≢◌, ℕ, zero, suc, ◌+◌, ◌<◌, ◌≤◌, ◌-◌, ◌⊎◌, List, [], ◌∷◌, ◌++◌, length, take, drop, map, Bool, true, false, ◌&&◌, not, Option, Some, None, refl, sym, ap, subst, ◌∙◌, add-one, inl, inr, arith, eqb-true, eq-eqb, slice_set, slice_get, slice_index_or}
 use Rattle.std.specs.Prelude.{nat_eq, slice_range, if◌then◌else◌}
@@ -20,9 +20,9 @@ use Rattle.tf_links.specs.Bits.{room}
 use Rattle.tf_order.specs.Graph.{GraphValue, leads_to, leads_in, standing_of_plan}
 use Rattle.tf_flow.specs.Listing.{shown_atom, shown_atoms}
 use Rattle.tf_order.specs.Rows.{row_in, row_at}
-use Rattle.tf_order.specs.Stretches.{TellsTheSame}
+use Rattle.tf_order.specs.Intervals.{TellsTheSame}
 use Rattle.tf_order.specs.Tables.{plan_seen, atoms_found, number_if, RowAdded, IsRowUpTo, AreRowsUpTo, is_after_last, AreRowsAt, AreSet, AreClosed, AreRows, AreTables, AllBelow, leads_from, flow_in_flows}
-use Rattle.tf_order.proofs.StretchLemmas.{past_is_before_none}
+use Rattle.tf_order.proofs.IntervalLemmas.{past_is_before_none}
 use Rattle.tf_order.specs.Paths.{flow_of_turn, item_of_turn}
 use Rattle.tf_numbers.proofs.BelowLemmas.{which_more}
 use Rattle.tf_numbers.proofs.EquationLemmas.{ap2}
@@ -34,34 +34,34 @@ use Rattle.tf_links.proofs.StandingLemmas.{listed_within, taking_none, taking_ne
 use Rattle.tf_numbers.proofs.ListLemmas.{nothing_after}
 use Rattle.tf_order.proofs.TableLemmas.{row_read_at, chain, so_many, number_there, read_dropped, left_over}
 
--- where all numbers of a stretch pass, they follow those before it
-stretch_passes : (test : ℕ → Bool) (n b m : ℕ) → b + m ≤ n → ((k : ℕ) → b ≤ k → k < b + m → test k ≡ true) → which_below b test ++ take m (drop b (numbers_below n)) ≡ which_below (b + m) test
-stretch_passes test n b zero room each =
+-- where all numbers of an interval pass, they follow those before it
+interval_passes : (test : ℕ → Bool) (n b m : ℕ) → b + m ≤ n → ((k : ℕ) → b ≤ k → k < b + m → test k ≡ true) → which_below b test ++ take m (drop b (numbers_below n)) ≡ which_below (b + m) test
+interval_passes test n b zero room each =
     let same : b ≡ b + zero = omega arith in
     ap (λ (xs : List ℕ). which_below b test ++ xs) (taking_none (drop b (numbers_below n))) ∙ (nothing_after (which_below b test) ∙ ap (λ (k : ℕ). which_below k test) same)
-stretch_passes test n b (suc m) room each =
+interval_passes test n b (suc m) room each =
     let within : m < length (drop b (numbers_below n)) = omega (arith, left_over (numbers_below n) b, so_many n, room) in
     let last : slice_index_or (drop b (numbers_below n)) m 0 ≡ b + m = read_dropped (numbers_below n) b m ∙ number_there n (b + m) (omega (arith, room)) in
     let next : suc (b + m) ≡ b + suc m = omega arith in
     ap (λ (xs : List ℕ). which_below b test ++ xs) (taking_next (drop b (numbers_below n)) m within ∙ ap (λ (k : ℕ). take m (drop b (numbers_below n)) ++ k ∷ []) last)
     ∙ (sym (chain (which_below b test) (take m (drop b (numbers_below n))) ((b + m) ∷ []))
-    ∙ (ap (λ (xs : List ℕ). xs ++ (b + m) ∷ []) (stretch_passes test n b m (omega (arith, room)) (λ k from to. each k from (omega (arith, to))))
+    ∙ (ap (λ (xs : List ℕ). xs ++ (b + m) ∷ []) (interval_passes test n b m (omega (arith, room)) (λ k from to. each k from (omega (arith, to))))
     ∙ (ap (λ (c : Bool). which_below (b + m) test ++ (if c then (b + m) ∷ [] else [])) (sym (each (b + m) (omega arith) (omega arith)))
     ∙ ap (λ (k : ℕ). which_below k test) next)))
 
--- a stretch of numbers that all pass
-pub passing_stretch : (test : ℕ → Bool) (on : Bool) (n b end : ℕ) (numbers row new : List ℕ) → row ≡ which_below b test → TellsTheSame test on b end → on ≡ true → b ≤ end → end ≤ n → numbers ≡ numbers_below n
+-- an interval of numbers that all pass
+pub passing_interval : (test : ℕ → Bool) (on : Bool) (n b end : ℕ) (numbers row new : List ℕ) → row ≡ which_below b test → TellsTheSame test on b end → on ≡ true → b ≤ end → end ≤ n → numbers ≡ numbers_below n
     → new ≡ row ++ slice_range numbers b end → new ≡ which_below end test
-passing_stretch test on n b end numbers row new is same passed order room numbers_are more =
+passing_interval test on n b end numbers row new is same passed order room numbers_are more =
     let whole : b + (end - b) ≡ end = omega (arith, order) in
     more
     ∙ (ap2 (λ (xs ys : List ℕ). xs ++ slice_range ys b end) is numbers_are
-    ∙ (stretch_passes test n b (end - b) (omega (arith, whole, room)) (λ k from to. same k from (omega (arith, to, whole)) ∙ passed)
+    ∙ (interval_passes test n b (end - b) (omega (arith, whole, room)) (λ k from to. same k from (omega (arith, to, whole)) ∙ passed)
     ∙ ap (λ (k : ℕ). which_below k test) whole))
 
--- a stretch of numbers of which none passes
-pub failing_stretch : (test : ℕ → Bool) (on : Bool) (b end : ℕ) (row : List ℕ) → row ≡ which_below b test → TellsTheSame test on b end → on ≡ false → b ≤ end → row ≡ which_below end test
-failing_stretch test on b end row is same failed order = is ∙ sym (which_more b end test order (λ k from to. same k from to ∙ failed))
+-- an interval of numbers of which none passes
+pub failing_interval : (test : ℕ → Bool) (on : Bool) (b end : ℕ) (row : List ℕ) → row ≡ which_below b test → TellsTheSame test on b end → on ≡ false → b ≤ end → row ≡ which_below end test
+failing_interval test on b end row is same failed order = is ∙ sym (which_more b end test order (λ k from to. same k from to ∙ failed))
 
 pub get_set_same : {X : Type 0} (xs : List X) (i : ℕ) (x : X) → i < length xs → slice_get (slice_set xs i x) i ≡ Some x
 get_set_same [] i x below = absurd (omega arith)
@@ -162,7 +162,7 @@ row_opened test a from last this row opened is here off on at = record {
 row_closed : (test : ℕ → Bool) (a from n : ℕ) (last this : Bool) (numbers row new : List ℕ) → IsRowUpTo test a last row from → test a ≡ this → last ≡ true → this ≡ false → a ≤ n → numbers ≡ numbers_below n → new ≡ row ++ slice_range numbers from a
     → IsRowUpTo test (suc a) this new from
 row_closed test a from n last this numbers row new is here on off room numbers_are more = record {
-  whole = λ no. passing_stretch test true n from a numbers row new (is.begun on) (is.all on) refl (is.earlier on) room numbers_are more
+  whole = λ no. passing_interval test true n from a numbers row new (is.begun on) (is.all on) refl (is.earlier on) room numbers_are more
       ∙ sym (which_more a (suc a) test (omega arith) (λ k above below. let at : k ≡ a = omega (arith, above, below) in ap test at ∙ (here ∙ off)));
   begun = λ yes. absurd (clash this yes off);
   earlier = λ yes. absurd (clash this yes off);
@@ -172,7 +172,7 @@ row_closed test a from n last this numbers row new is here on off room numbers_a
 row_as_was : (test : ℕ → Bool) (a from other : ℕ) (on : Bool) (row new : List ℕ) → IsRowUpTo test a on row from → new ≡ row → other ≡ from → IsRowUpTo test a on new other
 row_as_was test a from other on row new is same_row same_from = subst (λ (r : List ℕ). IsRowUpTo test a on r other) (sym same_row) (subst (IsRowUpTo test a on row) (sym same_from) is)
 
--- the rows up to the end of a stretch
+-- the rows up to the end of an interval
 rows_next : (plan : PlanOutline) (count a b end : ℕ) (rows new : List (List ℕ)) (opened others : List ℕ) → AreRowsAt plan count a b rows opened → b ≤ end → length new ≡ length rows → length others ≡ length opened
     → ((k : ℕ) → (k < b) ⊎ (end ≤ k) → row_at new k ≡ row_at rows k) → ((k : ℕ) → (k < b) ⊎ (end ≤ k) → slice_index_or others k 0 ≡ slice_index_or opened k 0)
     → AreRowsUpTo plan (suc a) (is_before plan a) b end new others → AreRowsAt plan count a end new others

@@ -56,8 +56,10 @@ pub record GraphValue : Type 0 where
 
 -- the graph is this plan's, which compiles
 pub record IsGraphOf (graph : GraphValue) (plan : PlanValue) : Type 0 where
-  pub predecessors : graph.predecessors ≡ map (predecessors_of (outline_of plan)) (numbers_below (count (outline_of plan)))
+  pub predecessors : graph.predecessors ≡ map (predecessors_of (outline_of plan))
+      (numbers_below (count (outline_of plan)))
   pub successors : graph.successors ≡ map (successors_of (outline_of plan)) (numbers_below (count (outline_of plan)))
-  pub direct_tasks : graph.direct_tasks ≡ map (direct_tasks_of (outline_of plan)) (numbers_below (count (outline_of plan)))
+  pub direct_tasks : graph.direct_tasks ≡ map (direct_tasks_of (outline_of plan))
+      (numbers_below (count (outline_of plan)))
   pub standing : graph.standing ≡ standing_of_plan (outline_of plan)
   pub compiles : compile_refusal plan ≡ None

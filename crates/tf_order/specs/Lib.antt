@@ -5,9 +5,9 @@ pub mod Index
 pub mod Paths
 pub mod Arranged
 pub mod Marks
-pub mod Sight
+pub mod Context
 pub mod Looked
 pub mod Ambiguities
-pub mod Stretches
+pub mod Intervals
 pub mod Tables
 pub mod Direct

@@ -4,8 +4,8 @@ use Rattle.tf_model.specs.Before.{Flow, arrange}
 use Rattle.tf_model.specs.Plan.{CompileRefusal, ambiguous, cycle, refusal_of}
 use Rattle.tf_order.specs.declared.faults.CompileFault.{CompileFault}
 use Rattle.tf_order.specs.declared.faults.CompileFault.TheVariants as fault
-use Rattle.tf_order.specs.declared.sight.Sight.{Sight}
-use Rattle.tf_order.specs.Sight.{atoms_seen, place_seen}
+use Rattle.tf_order.specs.declared.context.Context.{Context}
+use Rattle.tf_order.specs.Context.{atoms_seen, place_seen}
 
 -- the refusal that a fault tells; want of memory tells none
 abbrev pub told_by : CompileFault → Option CompileRefusal
@@ -19,9 +19,9 @@ told_in None = None
 told_in (Some found) = told_by found
 
 -- the flow that is looked at as it is arranged, beside those that are arranged already
-abbrev pub arranged_seen : Sight → List Flow → Flow
-arranged_seen sight inner = arrange (atoms_seen sight) inner (place_seen sight)
+abbrev pub arranged_seen : Context → List Flow → Flow
+arranged_seen context inner = arrange (atoms_seen context) inner (place_seen context)
 
 -- its refusal
-abbrev pub refusal_seen : Sight → List Flow → Option CompileRefusal
-refusal_seen sight inner = refusal_of (atoms_seen sight) inner (arranged_seen sight inner)
+abbrev pub refusal_seen : Context → List Flow → Option CompileRefusal
+refusal_seen context inner = refusal_of (atoms_seen context) inner (arranged_seen context inner)

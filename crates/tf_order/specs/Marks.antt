@@ -15,7 +15,8 @@ marks flow count path u = nat_lt u count && passes_item flow (Some u) path
 
 -- the other atom stands in the item, and is before a
 abbrev pub serves_in : List Atom → List Flow → ℕ → ℕ → ℕ → ℕ → Bool
-serves_in atoms inner g v a other = is_inside atoms g v other && path_before inner (path_at atoms other) (path_at atoms a)
+serves_in atoms inner g v a other =
+    is_inside atoms g v other && path_before inner (path_at atoms other) (path_at atoms a)
 
 -- the row of u has the item
 abbrev pub leads_to_item : List (List ℕ) → ℕ → ℕ → Bool

@@ -21,7 +21,7 @@ use Rattle.tf_links.specs.Links.{leads}
 use Rattle.tf_order.specs.Looked.{told_in}
 use Rattle.tf_flow.specs.Listing.{shown_atoms, shown_levels}
 use Rattle.tf_order.specs.Rows.{row_at}
-use Rattle.tf_order.specs.Stretches.{TellsTheSame}
+use Rattle.tf_order.specs.Intervals.{TellsTheSame}
 use Rattle.tf_order.specs.Paths.{flow_of_turn, item_of_turn}
 
 -- the fault at a place, where there is such a place
@@ -35,7 +35,8 @@ told_at faults g = told_in (fault_in (slice_get faults g))
 
 -- the flows from a number on were looked at: the table has them as they are arranged, and the faults
 -- tell their refusals
-pub record AreLooked (atoms : List Atom) (places : List FlowPlace) (from : ℕ) (table : List (Option Arranged)) (faults : List (Option CompileFault)) : Type 0 where
+pub record AreLooked (atoms : List Atom) (places : List FlowPlace) (from : ℕ) (table : List (Option Arranged))
+    (faults : List (Option CompileFault)) : Type 0 where
   pub height : length table ≡ length places
   pub fault_height : length faults ≡ length places
   pub shows : ShowsFlows table (arranged atoms (drop from places))
@@ -93,7 +94,9 @@ pub record IsRowUpTo (test : ℕ → Bool) (a : ℕ) (on : Bool) (row : List ℕ
 
 -- the rows from one up to before the end have those before them among the atoms below a, or are open
 abbrev pub AreRowsUpTo : PlanOutline → ℕ → (ℕ → Bool) → ℕ → ℕ → List (List ℕ) → List ℕ → Type 0
-AreRowsUpTo plan a on first end rows opened = (k : ℕ) → first ≤ k → k < end → IsRowUpTo (λ x. is_before plan x k) a (on k) (row_at rows k) (slice_index_or opened k 0)
+AreRowsUpTo plan a on first end rows opened =
+    (k : ℕ) → first ≤ k → k < end → IsRowUpTo (λ x. is_before plan x k) a (on k) (row_at rows k)
+    (slice_index_or opened k 0)
 
 -- the atom that stands before a in tree order is before k; none stands before the first
 abbrev pub is_after_last : PlanOutline → ℕ → ℕ → Bool
@@ -118,7 +121,8 @@ pub record AreSet (number from end : ℕ) (old new : List ℕ) : Type 0 where
 -- the other rows stay
 pub record AreClosed (numbers : List ℕ) (number from end : ℕ) (opened : List ℕ) (old new : List (List ℕ)) : Type 0 where
   pub height : length new ≡ length old
-  pub inside : (k : ℕ) → from ≤ k → k < end → row_at new k ≡ row_at old k ++ slice_range numbers (slice_index_or opened k 0) number
+  pub inside : (k : ℕ) → from ≤ k → k < end
+      → row_at new k ≡ row_at old k ++ slice_range numbers (slice_index_or opened k 0) number
   pub outside : (k : ℕ) → (k < from) ⊎ (end ≤ k) → row_at new k ≡ row_at old k
 
 -- a row for each of so many numbers
@@ -135,7 +139,9 @@ pub record AreTables (graph : GraphValue) (plan : PlanOutline) : Type 0 where
 
 -- who provides a symbol is told
 abbrev pub AreProviders : Outline → NameIndex → Type 0
-AreProviders outline index = (symbol : List ℕ) → told index symbol ≡ which_below (length outline.atoms.items) (provides_at (shown_atoms outline.atoms.items) symbol)
+AreProviders outline index =
+    (symbol : List ℕ) → told index symbol
+    ≡ which_below (length outline.atoms.items) (provides_at (shown_atoms outline.atoms.items) symbol)
 
 -- so many places with nothing in them
 pub record AreNone {X : Type 0} (count : ℕ) (places : List (Option X)) : Type 0 where

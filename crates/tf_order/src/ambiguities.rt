@@ -14,12 +14,12 @@ ghost use Rattle.tf_model.specs.Plan.{first_cycle};
 ghost use Rattle.tf_links.specs.Links.{AreLinks, AreReached};
 ghost use Rattle.tf_order.specs.Looked.{told_in};
 ghost use Rattle.tf_flow.specs.Listing.{shown_level};
-ghost use Rattle.tf_order.specs.Sight.{HasProviders, HasReach, atoms_seen, place_seen, count_seen, needed_by, needed_at};
+ghost use Rattle.tf_order.specs.Context.{HasProviders, HasReach, atoms_seen, place_seen, count_seen, needed_by, needed_at};
 
+use crate::context::{Context, givers, is_unserved};
 use crate::faults::CompileFault;
 use crate::linking::binds;
 use crate::paths::passes_item;
-use crate::sight::{Sight, givers, is_unserved};
 use std::alloc::Global;
 use tf_flow::{Arg, Part};
 use tf_links::{Bits, Links, has_in};
@@ -30,37 +30,37 @@ use tf_values::{Memory, Name, Names};
 #[tactic(auto, using(crate::proofs::AmbiguityLemmas::no_symbol, crate::proofs::AmbiguityLemmas::too_few, crate::proofs::AmbiguityLemmas::two_named, crate::proofs::AmbiguityLemmas::number_read))]
 pub fn ambiguity(
     alloc: Global,
-    sight: &Sight<'_, '_>,
+    context: &Context<'_, '_>,
     reach: &[Bits],
     item: usize,
 ) -> Result<Option<CompileFault>, Memory>
-    requires providers { HasProviders sight.now }
-    requires reach { HasReach sight.now reach.now }
-    ensures { IfOk result (λ fault. (inner : List Flow) → ShowsFlows sight.now.table.now inner
-        → told_in fault ≡ compiling.ambiguity_at (atoms_seen sight.now) inner (place_seen sight.now) item) }
+    requires providers { HasProviders context.now }
+    requires reach { HasReach context.now reach.now }
+    ensures { IfOk result (λ fault. (inner : List Flow) → ShowsFlows context.now.table.now inner
+        → told_in fault ≡ compiling.ambiguity_at (atoms_seen context.now) inner (place_seen context.now) item) }
 {
-    let symbols = ambiguous_symbols(alloc, sight, reach, item)?;
+    let symbols = ambiguous_symbols(alloc, context, reach, item)?;
     let Some(symbol) = least(&symbols) else {
         return Ok(None);
     };
-    let from = givers(alloc, sight, reach, item, &symbol)?;
+    let from = givers(alloc, context, reach, item, &symbol)?;
     if from.len() < 2 {
         return Ok(None);
     }
     Ok(Some(CompileFault::Ambiguous {
         symbol,
-        first: item_name(sight, from[0]),
-        second: item_name(sight, from[1]),
+        first: item_name(context, from[0]),
+        second: item_name(context, from[1]),
     }))
 }
 
 /// The name of an item.
 #[tactic(auto, using(crate::proofs::AmbiguityLemmas::name_seen))]
-pub fn item_name(sight: &Sight<'_, '_>, item: usize) -> Name
-    requires { item < count_seen sight.now }
-    ensures { result ≡ model.item_name (place_seen sight.now) item }
+pub fn item_name(context: &Context<'_, '_>, item: usize) -> Name
+    requires { item < count_seen context.now }
+    ensures { result ≡ model.item_name (place_seen context.now) item }
 {
-    sight.level.items[item].name
+    context.level.items[item].name
 }
 
 /// The refusal of a flow for its links: the shortest cycle through the first item that lies on one. There
@@ -68,19 +68,19 @@ pub fn item_name(sight: &Sight<'_, '_>, item: usize) -> Name
 #[tactic(auto, using(crate::proofs::AmbiguityLemmas::cycle_found, crate::proofs::AmbiguityLemmas::no_cycle, crate::proofs::AmbiguityLemmas::none_back_more))]
 pub fn cycle_fault(
     alloc: Global,
-    sight: &Sight<'_, '_>,
+    context: &Context<'_, '_>,
     links: &Links,
     reach: &[Bits],
 ) -> Result<Option<CompileFault>, Memory>
-    requires { links.now.count ≡ count_seen sight.now }
+    requires { links.now.count ≡ count_seen context.now }
     ensures { IfOk result (λ fault. (pairs : List Pair) → AreLinks links.now pairs
-        → AreReached (count_seen sight.now) (reached (count_seen sight.now) pairs) reach.now
-        → told_in fault ≡ first_cycle (place_seen sight.now) (count_seen sight.now) pairs) }
+        → AreReached (count_seen context.now) (reached (count_seen context.now) pairs) reach.now
+        → told_in fault ≡ first_cycle (place_seen context.now) (count_seen context.now) pairs) }
 {
     for item in 0..links.count() {
         if has_in(reach, item, item) {
             let items = links.cycle(alloc, item)?;
-            let names = names_of(alloc, sight, &items)?;
+            let names = names_of(alloc, context, &items)?;
             return Ok(Some(CompileFault::Cycle(Names::make(names))));
         }
     }
@@ -89,13 +89,13 @@ pub fn cycle_fault(
 
 /// The names of items.
 #[tactic(auto, using(crate::proofs::AmbiguityLemmas::names_more, crate::proofs::ExplicitLemmas::number_within))]
-fn names_of(alloc: Global, sight: &Sight<'_, '_>, items: &[usize]) -> Result<Vec<Name>, Memory>
-    requires { (k : ℕ) → has_number items.now k ≡ true → k < count_seen sight.now }
-    ensures { IfOk result (λ names. names.items ≡ map (model.item_name (place_seen sight.now)) items.now) }
+fn names_of(alloc: Global, context: &Context<'_, '_>, items: &[usize]) -> Result<Vec<Name>, Memory>
+    requires { (k : ℕ) → has_number items.now k ≡ true → k < count_seen context.now }
+    ensures { IfOk result (λ names. names.items ≡ map (model.item_name (place_seen context.now)) items.now) }
 {
     let mut names = Vec::new(alloc);
     for item in items {
-        names.push(item_name(sight, *item))?;
+        names.push(item_name(context, *item))?;
     }
     Ok(names)
 }
@@ -104,44 +104,44 @@ fn names_of(alloc: Global, sight: &Sight<'_, '_>, items: &[usize]) -> Result<Vec
 #[tactic(auto, using(crate::proofs::AmbiguityLemmas::all_start, crate::proofs::AmbiguityLemmas::all_more, crate::proofs::AmbiguityLemmas::all_done))]
 fn ambiguous_symbols(
     alloc: Global,
-    sight: &Sight<'_, '_>,
+    context: &Context<'_, '_>,
     reach: &[Bits],
     item: usize,
 ) -> Result<Vec<Name>, Memory>
-    requires providers { HasProviders sight.now }
-    requires reach { HasReach sight.now reach.now }
-    ensures { IfOk result (λ symbols. (inner : List Flow) → ShowsFlows sight.now.table.now inner
-        → symbols.items ≡ filter (compiling.is_ambiguous (atoms_seen sight.now) (place_seen sight.now) item)
-        (model.needs (atoms_seen sight.now) inner (place_seen sight.now).number item)) }
+    requires providers { HasProviders context.now }
+    requires reach { HasReach context.now reach.now }
+    ensures { IfOk result (λ symbols. (inner : List Flow) → ShowsFlows context.now.table.now inner
+        → symbols.items ≡ filter (compiling.is_ambiguous (atoms_seen context.now) (place_seen context.now) item)
+        (model.needs (atoms_seen context.now) inner (place_seen context.now).number item)) }
 {
     let mut symbols = Vec::new(alloc);
-    for atom in 0..sight.atoms.len() {
-        add_of_atom(alloc, sight, reach, item, atom, &mut symbols)?;
+    for atom in 0..context.atoms.len() {
+        add_of_atom(alloc, context, reach, item, atom, &mut symbols)?;
     }
     Ok(symbols)
 }
 
 /// Adds the ambiguous symbols of an atom, where it stands in the item.
-#[tactic(auto, using(crate::proofs::AmbiguityLemmas::atom_outside, crate::proofs::AmbiguityLemmas::atom_inside, crate::proofs::SightLemmas::path_seen))]
+#[tactic(auto, using(crate::proofs::AmbiguityLemmas::atom_outside, crate::proofs::AmbiguityLemmas::atom_inside, crate::proofs::ContextLemmas::path_seen))]
 fn add_of_atom(
     alloc: Global,
-    sight: &Sight<'_, '_>,
+    context: &Context<'_, '_>,
     reach: &[Bits],
     item: usize,
     atom: usize,
     symbols: &mut Vec<Name>,
 ) -> Result<(), Memory>
-    requires providers { HasProviders sight.now }
-    requires reach { HasReach sight.now reach.now }
-    requires atom { atom < length sight.now.atoms.now }
-    ensures { OnOk result ((inner : List Flow) → ShowsFlows sight.now.table.now inner
-        → symbols.new.items ≡ symbols.old.items ++ ambiguities_inside sight.now inner item atom) }
+    requires providers { HasProviders context.now }
+    requires reach { HasReach context.now reach.now }
+    requires atom { atom < length context.now.atoms.now }
+    ensures { OnOk result ((inner : List Flow) → ShowsFlows context.now.table.now inner
+        → symbols.new.items ≡ symbols.old.items ++ ambiguities_inside context.now inner item atom) }
 {
-    let place = &sight.atoms[atom];
-    if !passes_item(place.path.turns(), sight.level.number, item) {
+    let place = &context.atoms[atom];
+    if !passes_item(place.path.turns(), context.level.number, item) {
         return Ok(());
     }
-    add_of_part(alloc, sight, reach, item, atom, place.part, symbols)?;
+    add_of_part(alloc, context, reach, item, atom, place.part, symbols)?;
     Ok(())
 }
 
@@ -149,22 +149,22 @@ fn add_of_atom(
 #[tactic(auto, using(crate::proofs::AmbiguityLemmas::part_start, crate::proofs::AmbiguityLemmas::part_more, crate::proofs::AmbiguityLemmas::part_all))]
 fn add_of_part(
     alloc: Global,
-    sight: &Sight<'_, '_>,
+    context: &Context<'_, '_>,
     reach: &[Bits],
     item: usize,
     atom: usize,
     part: Part<'_>,
     symbols: &mut Vec<Name>,
 ) -> Result<(), Memory>
-    requires providers { HasProviders sight.now }
-    requires reach { HasReach sight.now reach.now }
-    requires atom { atom < length sight.now.atoms.now }
-    ensures { OnOk result ((inner : List Flow) → ShowsFlows sight.now.table.now inner
-        → symbols.new.items ≡ symbols.old.items ++ ambiguities_by sight.now inner item atom (shown_part part.entry)
+    requires providers { HasProviders context.now }
+    requires reach { HasReach context.now reach.now }
+    requires atom { atom < length context.now.atoms.now }
+    ensures { OnOk result ((inner : List Flow) → ShowsFlows context.now.table.now inner
+        → symbols.new.items ≡ symbols.old.items ++ ambiguities_by context.now inner item atom (shown_part part.entry)
         (arguments_of (shown_part part.entry))) }
 {
     for arg in part.args() {
-        add_of_argument(alloc, sight, reach, item, atom, part, arg, symbols)?;
+        add_of_argument(alloc, context, reach, item, atom, part, arg, symbols)?;
     }
     Ok(())
 }
@@ -173,7 +173,7 @@ fn add_of_part(
 #[tactic(auto, using(crate::proofs::AmbiguityLemmas::argument_bound, crate::proofs::AmbiguityLemmas::argument_served, crate::proofs::AmbiguityLemmas::argument_clear, crate::proofs::AmbiguityLemmas::argument_ambiguous))]
 fn add_of_argument(
     alloc: Global,
-    sight: &Sight<'_, '_>,
+    context: &Context<'_, '_>,
     reach: &[Bits],
     item: usize,
     atom: usize,
@@ -181,20 +181,20 @@ fn add_of_argument(
     arg: &Arg,
     symbols: &mut Vec<Name>,
 ) -> Result<(), Memory>
-    requires providers { HasProviders sight.now }
-    requires reach { HasReach sight.now reach.now }
-    requires atom { atom < length sight.now.atoms.now }
-    ensures { OnOk result ((inner : List Flow) → ShowsFlows sight.now.table.now inner
-        → symbols.new.items ≡ symbols.old.items ++ ambiguities_by sight.now inner item atom (shown_part part.entry)
+    requires providers { HasProviders context.now }
+    requires reach { HasReach context.now reach.now }
+    requires atom { atom < length context.now.atoms.now }
+    ensures { OnOk result ((inner : List Flow) → ShowsFlows context.now.table.now inner
+        → symbols.new.items ≡ symbols.old.items ++ ambiguities_by context.now inner item atom (shown_part part.entry)
         (arg.now ∷ [])) }
 {
     if binds(part.injects(), &arg.symbol) {
         return Ok(());
     }
-    if !is_unserved(sight, item, atom, &arg.symbol) {
+    if !is_unserved(context, item, atom, &arg.symbol) {
         return Ok(());
     }
-    let from = givers(alloc, sight, reach, item, &arg.symbol)?;
+    let from = givers(alloc, context, reach, item, &arg.symbol)?;
     if from.len() < 2 {
         return Ok(());
     }

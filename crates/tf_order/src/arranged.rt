@@ -1,9 +1,9 @@
-ghost use Rattle.std.specs.Prelude.{◌≡◌, ℕ, List, false, nat_eq, slice_get, IfSome};
+ghost use Rattle.std.specs.Prelude.{◌≡◌, List, false, nat_eq, IfSome};
 ghost use Rattle.tf_model.specs.Before as before;
 ghost use Rattle.tf_model.specs.Before.{Flow};
 ghost use Rattle.tf_order.specs.Arranged.{comes_before, ShowsFlows};
 ghost use Rattle.tf_links.specs.Links.{leads};
-ghost use Rattle.tf_order.specs.Stretches.{IsSteady, stands_later};
+ghost use Rattle.tf_order.specs.Intervals.{IsSteady, stands_later};
 
 use crate::paths::{Meeting, meeting_of};
 use tf_flow::{FlowKind, Turn};

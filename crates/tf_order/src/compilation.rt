@@ -8,11 +8,11 @@ ghost use Rattle.tf_order.specs.Refusals.{IsRefusedBy};
 ghost use Rattle.tf_order.specs.Tables.{told_at, AreLooked, AreNone, AreProviders};
 
 use crate::arranged::Arranged;
+use crate::context::Context;
 use crate::faults::CompileFault;
 use crate::graph::Graph;
 use crate::index::{NameIndex, providers};
 use crate::looking::look;
-use crate::sight::Sight;
 use crate::tables::tables;
 use std::alloc::Global;
 use tf_flow::{Outline, Plan, outline_of};
@@ -89,13 +89,13 @@ fn look_at_flow(
     ensures { OnOk result (AreLooked (shown_atoms outline.now.atoms.items)
         (shown_levels outline.now.levels.items) flow found.new.table.items found.new.faults.items) }
 {
-    let sight = Sight {
+    let context = Context {
         atoms: &outline.atoms,
         providers,
         table: &found.table,
         level: &outline.levels[flow],
     };
-    let looked = look(alloc, &sight)?;
+    let looked = look(alloc, &context)?;
     found.table[flow] = Some(looked.arranged);
     found.faults[flow] = looked.refusal;
     Ok(())

@@ -4,18 +4,18 @@
 mod ambiguities;
 mod arranged;
 mod compilation;
+mod context;
 mod direct;
 mod faults;
 mod graph;
 mod index;
+mod intervals;
 mod linking;
 mod looking;
 mod paths;
 mod root_items;
 mod rows;
-mod sight;
 mod standing_atoms;
-mod stretches;
 mod tables;
 
 pub use compilation::compile;

@@ -9,10 +9,10 @@ ghost use Rattle.tf_order.specs.Arranged.{ShowsFlows};
 ghost use Rattle.tf_links.specs.Bits.{has, words_for};
 ghost use Rattle.tf_links.specs.Links.{leads, LinksValue, AreLinks};
 ghost use Rattle.tf_flow.specs.Listing.{shown_level};
-ghost use Rattle.tf_order.specs.Sight.{atoms_seen, place_seen, count_seen, HasProviders, HasReach, LinksBy, for_item, needed_by, needed_at, taken_at, passed_at};
+ghost use Rattle.tf_order.specs.Context.{atoms_seen, place_seen, count_seen, HasProviders, HasReach, LinksBy, for_item, needed_by, needed_at, taken_at, passed_at};
 
+use crate::context::{Context, givers, is_unserved};
 use crate::index::item_names;
-use crate::sight::{Sight, givers, is_unserved};
 use std::alloc::Global;
 use tf_flow::{Arg, Bind, Level, Part, Turn};
 use tf_links::{Bits, Links};
@@ -30,50 +30,50 @@ pub struct Found {
 #[tactic(auto, using(crate::proofs::TurnLemmas::inferred_start, crate::proofs::TurnLemmas::inferred_more, crate::proofs::TurnLemmas::inferred_all))]
 pub fn infer(
     alloc: Global,
-    sight: &Sight<'_, '_>,
+    context: &Context<'_, '_>,
     reach: &[Bits],
     found: &mut Found,
 ) -> Result<(), Memory>
-    requires providers { HasProviders sight.now }
-    requires reach { HasReach sight.now reach.now }
-    requires count { found.old.links.count ≡ count_seen sight.now }
-    requires wide { length found.old.ambiguities ≡ words_for (count_seen sight.now) }
-    ensures count { OnOk result (found.new.links.count ≡ count_seen sight.now) }
-    ensures wide { OnOk result (length found.new.ambiguities ≡ words_for (count_seen sight.now)) }
-    ensures links { OnOk result ((inner : List Flow) → ShowsFlows sight.now.table.now inner
-        → LinksBy sight.now (model.needs (atoms_seen sight.now) inner
-        (place_seen sight.now).number)
+    requires providers { HasProviders context.now }
+    requires reach { HasReach context.now reach.now }
+    requires count { found.old.links.count ≡ count_seen context.now }
+    requires wide { length found.old.ambiguities ≡ words_for (count_seen context.now) }
+    ensures count { OnOk result (found.new.links.count ≡ count_seen context.now) }
+    ensures wide { OnOk result (length found.new.ambiguities ≡ words_for (count_seen context.now)) }
+    ensures links { OnOk result ((inner : List Flow) → ShowsFlows context.now.table.now inner
+        → LinksBy context.now (model.needs (atoms_seen context.now) inner
+        (place_seen context.now).number)
         found.old.links found.old.ambiguities found.new.links found.new.ambiguities) }
 {
-    for atom in 0..sight.atoms.len() {
-        link_atom(alloc, sight, reach, atom, found)?;
+    for atom in 0..context.atoms.len() {
+        link_atom(alloc, context, reach, atom, found)?;
     }
     Ok(())
 }
 
 /// Adds what an atom's symbols give the item that it stands in.
-#[tactic(auto, using(crate::proofs::TurnLemmas::turns_start, crate::proofs::TurnLemmas::turns_more, crate::proofs::TurnLemmas::turns_all, crate::proofs::SightLemmas::path_seen))]
+#[tactic(auto, using(crate::proofs::TurnLemmas::turns_start, crate::proofs::TurnLemmas::turns_more, crate::proofs::TurnLemmas::turns_all, crate::proofs::ContextLemmas::path_seen))]
 fn link_atom(
     alloc: Global,
-    sight: &Sight<'_, '_>,
+    context: &Context<'_, '_>,
     reach: &[Bits],
     atom: usize,
     found: &mut Found,
 ) -> Result<(), Memory>
-    requires providers { HasProviders sight.now }
-    requires reach { HasReach sight.now reach.now }
-    requires atom { atom < length sight.now.atoms.now }
-    requires count { found.old.links.count ≡ count_seen sight.now }
-    requires wide { length found.old.ambiguities ≡ words_for (count_seen sight.now) }
-    ensures count { OnOk result (found.new.links.count ≡ count_seen sight.now) }
-    ensures wide { OnOk result (length found.new.ambiguities ≡ words_for (count_seen sight.now)) }
-    ensures links { OnOk result ((inner : List Flow) → ShowsFlows sight.now.table.now inner
-        → LinksBy sight.now (passed_at sight.now inner atom
-        (path_at (atoms_seen sight.now) atom))
+    requires providers { HasProviders context.now }
+    requires reach { HasReach context.now reach.now }
+    requires atom { atom < length context.now.atoms.now }
+    requires count { found.old.links.count ≡ count_seen context.now }
+    requires wide { length found.old.ambiguities ≡ words_for (count_seen context.now) }
+    ensures count { OnOk result (found.new.links.count ≡ count_seen context.now) }
+    ensures wide { OnOk result (length found.new.ambiguities ≡ words_for (count_seen context.now)) }
+    ensures links { OnOk result ((inner : List Flow) → ShowsFlows context.now.table.now inner
+        → LinksBy context.now (passed_at context.now inner atom
+        (path_at (atoms_seen context.now) atom))
         found.old.links found.old.ambiguities found.new.links found.new.ambiguities) }
 {
-    for turn in sight.atoms[atom].path.turns() {
-        link_turn(alloc, sight, reach, atom, *turn, found)?;
+    for turn in context.atoms[atom].path.turns() {
+        link_turn(alloc, context, reach, atom, *turn, found)?;
     }
     Ok(())
 }
@@ -82,34 +82,34 @@ fn link_atom(
 #[tactic(auto, using(crate::proofs::TurnLemmas::turn_other, crate::proofs::TurnLemmas::turn_retry, crate::proofs::TurnLemmas::turn_past, crate::proofs::TurnLemmas::turn_here))]
 fn link_turn(
     alloc: Global,
-    sight: &Sight<'_, '_>,
+    context: &Context<'_, '_>,
     reach: &[Bits],
     atom: usize,
     turn: Turn,
     found: &mut Found,
 ) -> Result<(), Memory>
-    requires providers { HasProviders sight.now }
-    requires reach { HasReach sight.now reach.now }
-    requires atom { atom < length sight.now.atoms.now }
-    requires count { found.old.links.count ≡ count_seen sight.now }
-    requires wide { length found.old.ambiguities ≡ words_for (count_seen sight.now) }
-    ensures count { OnOk result (found.new.links.count ≡ count_seen sight.now) }
-    ensures wide { OnOk result (length found.new.ambiguities ≡ words_for (count_seen sight.now)) }
-    ensures links { OnOk result ((inner : List Flow) → ShowsFlows sight.now.table.now inner
-        → LinksBy sight.now
-        (taken_at sight.now inner atom turn)
+    requires providers { HasProviders context.now }
+    requires reach { HasReach context.now reach.now }
+    requires atom { atom < length context.now.atoms.now }
+    requires count { found.old.links.count ≡ count_seen context.now }
+    requires wide { length found.old.ambiguities ≡ words_for (count_seen context.now) }
+    ensures count { OnOk result (found.new.links.count ≡ count_seen context.now) }
+    ensures wide { OnOk result (length found.new.ambiguities ≡ words_for (count_seen context.now)) }
+    ensures links { OnOk result ((inner : List Flow) → ShowsFlows context.now.table.now inner
+        → LinksBy context.now
+        (taken_at context.now inner atom turn)
         found.old.links found.old.ambiguities found.new.links found.new.ambiguities) }
 {
-    if turn.flow != sight.level.number {
+    if turn.flow != context.level.number {
         return Ok(());
     }
     let Some(item) = turn.item else {
         return Ok(());
     };
-    if sight.level.items.len() <= item {
+    if context.level.items.len() <= item {
         return Ok(());
     }
-    link_item(alloc, sight, reach, atom, item, found)?;
+    link_item(alloc, context, reach, atom, item, found)?;
     Ok(())
 }
 
@@ -117,28 +117,28 @@ fn link_turn(
 #[tactic(auto, using(crate::proofs::LinkingLemmas::args_start, crate::proofs::LinkingLemmas::args_more, crate::proofs::LinkingLemmas::args_all, crate::proofs::LinkingLemmas::part_seen))]
 fn link_item(
     alloc: Global,
-    sight: &Sight<'_, '_>,
+    context: &Context<'_, '_>,
     reach: &[Bits],
     atom: usize,
     item: usize,
     found: &mut Found,
 ) -> Result<(), Memory>
-    requires providers { HasProviders sight.now }
-    requires reach { HasReach sight.now reach.now }
-    requires atom { atom < length sight.now.atoms.now }
-    requires item { item < count_seen sight.now }
-    requires count { found.old.links.count ≡ count_seen sight.now }
-    requires wide { length found.old.ambiguities ≡ words_for (count_seen sight.now) }
-    ensures count { OnOk result (found.new.links.count ≡ count_seen sight.now) }
-    ensures wide { OnOk result (length found.new.ambiguities ≡ words_for (count_seen sight.now)) }
-    ensures links { OnOk result ((inner : List Flow) → ShowsFlows sight.now.table.now inner
-        → LinksBy sight.now (for_item item
-        (needed_at sight.now inner atom item)) found.old.links found.old.ambiguities
+    requires providers { HasProviders context.now }
+    requires reach { HasReach context.now reach.now }
+    requires atom { atom < length context.now.atoms.now }
+    requires item { item < count_seen context.now }
+    requires count { found.old.links.count ≡ count_seen context.now }
+    requires wide { length found.old.ambiguities ≡ words_for (count_seen context.now) }
+    ensures count { OnOk result (found.new.links.count ≡ count_seen context.now) }
+    ensures wide { OnOk result (length found.new.ambiguities ≡ words_for (count_seen context.now)) }
+    ensures links { OnOk result ((inner : List Flow) → ShowsFlows context.now.table.now inner
+        → LinksBy context.now (for_item item
+        (needed_at context.now inner atom item)) found.old.links found.old.ambiguities
         found.new.links found.new.ambiguities) }
 {
-    let part = sight.atoms[atom].part;
+    let part = context.atoms[atom].part;
     for arg in part.args() {
-        link_argument(alloc, sight, reach, atom, item, part, arg, found)?;
+        link_argument(alloc, context, reach, atom, item, part, arg, found)?;
     }
     Ok(())
 }
@@ -147,7 +147,7 @@ fn link_item(
 #[tactic(auto, using(crate::proofs::LinkingLemmas::argument_bound, crate::proofs::LinkingLemmas::argument_served, crate::proofs::LinkingLemmas::argument_needed))]
 fn link_argument(
     alloc: Global,
-    sight: &Sight<'_, '_>,
+    context: &Context<'_, '_>,
     reach: &[Bits],
     atom: usize,
     item: usize,
@@ -155,31 +155,31 @@ fn link_argument(
     arg: &Arg,
     found: &mut Found,
 ) -> Result<(), Memory>
-    requires providers { HasProviders sight.now }
-    requires reach { HasReach sight.now reach.now }
-    requires atom { atom < length sight.now.atoms.now }
-    requires item { item < count_seen sight.now }
-    requires count { found.old.links.count ≡ count_seen sight.now }
-    requires wide { length found.old.ambiguities ≡ words_for (count_seen sight.now) }
-    ensures count { OnOk result (found.new.links.count ≡ count_seen sight.now) }
-    ensures wide { OnOk result (length found.new.ambiguities ≡ words_for (count_seen sight.now)) }
-    ensures links { OnOk result ((inner : List Flow) → ShowsFlows sight.now.table.now inner
-        → LinksBy sight.now (for_item item (needed_by sight.now inner item atom (shown_part part.entry)
+    requires providers { HasProviders context.now }
+    requires reach { HasReach context.now reach.now }
+    requires atom { atom < length context.now.atoms.now }
+    requires item { item < count_seen context.now }
+    requires count { found.old.links.count ≡ count_seen context.now }
+    requires wide { length found.old.ambiguities ≡ words_for (count_seen context.now) }
+    ensures count { OnOk result (found.new.links.count ≡ count_seen context.now) }
+    ensures wide { OnOk result (length found.new.ambiguities ≡ words_for (count_seen context.now)) }
+    ensures links { OnOk result ((inner : List Flow) → ShowsFlows context.now.table.now inner
+        → LinksBy context.now (for_item item (needed_by context.now inner item atom (shown_part part.entry)
         (arg.now ∷ [])))
         found.old.links found.old.ambiguities found.new.links found.new.ambiguities) }
 {
     if binds(part.injects(), &arg.symbol) {
         return Ok(());
     }
-    if !is_unserved(sight, item, atom, &arg.symbol) {
+    if !is_unserved(context, item, atom, &arg.symbol) {
         return Ok(());
     }
-    link_symbol(alloc, sight, reach, item, &arg.symbol, found)?;
+    link_symbol(alloc, context, reach, item, &arg.symbol, found)?;
     Ok(())
 }
 
 /// Whether one of them binds the symbol.
-#[tactic(auto, using(crate::proofs::SightLemmas::bound_start, crate::proofs::SightLemmas::bound_more, crate::proofs::SightLemmas::bound_here))]
+#[tactic(auto, using(crate::proofs::ContextLemmas::bound_start, crate::proofs::ContextLemmas::bound_more, crate::proofs::ContextLemmas::bound_here))]
 pub fn binds(injects: &[Bind], symbol: &Name) -> bool
     ensures { result ≡ is_among (bind_symbols injects.now) symbol.now }
 {
@@ -196,24 +196,24 @@ pub fn binds(injects: &[Bind], symbol: &Name) -> bool
 #[tactic(auto, using(crate::proofs::LinkingLemmas::symbol_none, crate::proofs::LinkingLemmas::symbol_one, crate::proofs::LinkingLemmas::symbol_several, crate::proofs::LinkingLemmas::giver_within))]
 fn link_symbol(
     alloc: Global,
-    sight: &Sight<'_, '_>,
+    context: &Context<'_, '_>,
     reach: &[Bits],
     item: usize,
     symbol: &Name,
     found: &mut Found,
 ) -> Result<(), Memory>
-    requires providers { HasProviders sight.now }
-    requires reach { HasReach sight.now reach.now }
-    requires item { item < count_seen sight.now }
-    requires count { found.old.links.count ≡ count_seen sight.now }
-    requires wide { length found.old.ambiguities ≡ words_for (count_seen sight.now) }
-    ensures count { OnOk result (found.new.links.count ≡ count_seen sight.now) }
-    ensures wide { OnOk result (length found.new.ambiguities ≡ words_for (count_seen sight.now)) }
-    ensures links { OnOk result (LinksBy sight.now (for_item item
+    requires providers { HasProviders context.now }
+    requires reach { HasReach context.now reach.now }
+    requires item { item < count_seen context.now }
+    requires count { found.old.links.count ≡ count_seen context.now }
+    requires wide { length found.old.ambiguities ≡ words_for (count_seen context.now) }
+    ensures count { OnOk result (found.new.links.count ≡ count_seen context.now) }
+    ensures wide { OnOk result (length found.new.ambiguities ≡ words_for (count_seen context.now)) }
+    ensures links { OnOk result (LinksBy context.now (for_item item
         (symbol.now ∷ []))
         found.old.links found.old.ambiguities found.new.links found.new.ambiguities) }
 {
-    let from = givers(alloc, sight, reach, item, symbol)?;
+    let from = givers(alloc, context, reach, item, symbol)?;
     if from.is_empty() {
         return Ok(());
     }

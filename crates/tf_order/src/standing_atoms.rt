@@ -5,10 +5,10 @@ ghost use Rattle.tf_model.specs.Before as model;
 ghost use Rattle.tf_numbers.specs.Numbers.{Pair};
 ghost use Rattle.tf_order.specs.Arranged.{ShowsFlows};
 ghost use Rattle.tf_links.specs.Links.{AreLinks};
-ghost use Rattle.tf_order.specs.Sight.{place_seen, count_seen};
+ghost use Rattle.tf_order.specs.Context.{place_seen, count_seen};
 
 use crate::arranged::Arranged;
-use crate::sight::Sight;
+use crate::context::Context;
 use std::alloc::Global;
 use tf_flow::Standing;
 use tf_links::Links;
@@ -19,27 +19,27 @@ use tf_values::Memory;
 #[tactic(auto, using(crate::proofs::StandingAtomLemmas::atoms_start, crate::proofs::StandingAtomLemmas::atoms_more, crate::proofs::StandingAtomLemmas::atoms_all))]
 pub fn standing_atoms(
     alloc: Global,
-    sight: &Sight<'_, '_>,
+    context: &Context<'_, '_>,
     links: &Links,
 ) -> Result<Vec<usize>, Memory>
-    requires { links.now.count ≡ count_seen sight.now }
-    ensures { IfOk result (λ atoms. (inner : List Flow) (pairs : List Pair) → ShowsFlows sight.now.table.now inner
-        → AreLinks links.now pairs → atoms.items ≡ model.standing_atoms inner (place_seen sight.now) pairs) }
+    requires { links.now.count ≡ count_seen context.now }
+    ensures { IfOk result (λ atoms. (inner : List Flow) (pairs : List Pair) → ShowsFlows context.now.table.now inner
+        → AreLinks links.now pairs → atoms.items ≡ model.standing_atoms inner (place_seen context.now) pairs) }
 {
     let mut atoms = Vec::new(alloc);
-    add_retry(sight, &mut atoms)?;
+    add_retry(context, &mut atoms)?;
     let order = links.standing(alloc)?;
     for item in &order {
-        add_item(sight, *item, &mut atoms)?;
+        add_item(context, *item, &mut atoms)?;
     }
     Ok(atoms)
 }
 
 /// Adds the flow's retry controller, where it has one.
-fn add_retry(sight: &Sight<'_, '_>, atoms: &mut Vec<usize>) -> Result<(), Memory>
-    ensures { OnOk result (atoms.new.items ≡ atoms.old.items ++ option_to_list (place_seen sight.now).retry) }
+fn add_retry(context: &Context<'_, '_>, atoms: &mut Vec<usize>) -> Result<(), Memory>
+    ensures { OnOk result (atoms.new.items ≡ atoms.old.items ++ option_to_list (place_seen context.now).retry) }
 {
-    match sight.level.retry {
+    match context.level.retry {
         None => Ok(()),
         Some(retry) => {
             atoms.push(retry)?;
@@ -50,11 +50,11 @@ fn add_retry(sight: &Sight<'_, '_>, atoms: &mut Vec<usize>) -> Result<(), Memory
 
 /// Adds the atoms of an item in standing order.
 #[tactic(auto, using(crate::proofs::StandingAtomLemmas::item_none, crate::proofs::StandingAtomLemmas::item_task, crate::proofs::StandingAtomLemmas::item_flow))]
-fn add_item(sight: &Sight<'_, '_>, item: usize, atoms: &mut Vec<usize>) -> Result<(), Memory>
-    ensures { OnOk result ((inner : List Flow) → ShowsFlows sight.now.table.now inner
-        → atoms.new.items ≡ atoms.old.items ++ model.standing_of_item inner (place_seen sight.now) item) }
+fn add_item(context: &Context<'_, '_>, item: usize, atoms: &mut Vec<usize>) -> Result<(), Memory>
+    ensures { OnOk result ((inner : List Flow) → ShowsFlows context.now.table.now inner
+        → atoms.new.items ≡ atoms.old.items ++ model.standing_of_item inner (place_seen context.now) item) }
 {
-    let Some(place) = sight.level.items.get(item) else {
+    let Some(place) = context.level.items.get(item) else {
         return Ok(());
     };
     match place.standing {
@@ -63,7 +63,7 @@ fn add_item(sight: &Sight<'_, '_>, item: usize, atoms: &mut Vec<usize>) -> Resul
             Ok(())
         }
         Standing::Flow(flow) => {
-            add_flow(sight.table, flow, atoms)?;
+            add_flow(context.table, flow, atoms)?;
             Ok(())
         }
     }

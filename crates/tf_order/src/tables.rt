@@ -3,14 +3,14 @@ ghost use Rattle.tf_numbers.specs.Numbers.{which_below, numbers_below};
 ghost use Rattle.tf_model.specs.Plan.{is_before};
 ghost use Rattle.tf_order.specs.Arranged.{ShowsFlows};
 ghost use Rattle.tf_order.specs.Graph.{standing_of_plan};
-ghost use Rattle.tf_order.specs.Stretches.{IsAscending};
+ghost use Rattle.tf_order.specs.Intervals.{IsAscending};
 ghost use Rattle.tf_order.specs.Tables.{plan_seen, atoms_found, AreRows, AreRowsAt, AreSet, AreClosed, AreTables, AllBelow};
 
 use crate::arranged::Arranged;
 use crate::direct::direct_rows;
 use crate::graph::Graph;
+use crate::intervals::{Interval, interval_at, interval_of_last};
 use crate::rows::{Row, empty_rows, short_numbers};
-use crate::stretches::{Stretch, stretch_at, stretch_of_last};
 use std::alloc::Global;
 use tf_flow::Outline;
 use tf_values::Memory;
@@ -111,7 +111,7 @@ fn all_numbers(alloc: Global, count: usize) -> Result<Vec<u16>, Memory>
 }
 
 /// The atoms after one, ascending. Rows of those before are opened where it comes before an atom and the last
-/// one didn't, and closed where the last one did and it doesn't. A stretch of atoms that are alike in this is
+/// one didn't, and closed where the last one did and it doesn't. An interval of atoms that are alike in this is
 /// taken at once. A number that no atom has is before none.
 #[tactic(auto, using(crate::proofs::SpreadLemmas::opened_earlier, crate::proofs::SpreadLemmas::rows_over))]
 fn add_atom(
@@ -135,12 +135,12 @@ fn add_atom(
         rows.new.items opened.new.items) }
 {
     let mut after = Row::new(alloc);
-    let mut last = Stretch::none();
-    let mut this = Stretch::none();
+    let mut last = Interval::none();
+    let mut this = Interval::none();
     let mut b = 0;
     while b < outline.atoms.len() {
-        last = stretch_of_last(outline, table, a, b, last);
-        this = stretch_at(outline, table, a, b, this);
+        last = interval_of_last(outline, table, a, b, last);
+        this = interval_at(outline, table, a, b, this);
         let end = last.end.min(this.end);
         if this.is_after {
             after.extend(&numbers[b..end])?;

@@ -5,7 +5,8 @@ use Rattle.tf_ports.specs.declared.crews.Hands.{Hands}
 use Rattle.tf_ports.specs.declared.crews.Want.{Want}
 use Rattle.tf_ports.specs.Ports.{CrewTold, did_by}
 
--- the wants that were answered with hands, the orders that each of the hands that were given back last had been given, and how many faults there were
+-- the wants that were answered with hands, the orders that each of the hands that were given back last had been given,
+-- and how many faults there were
 pub record HeldByCrew : Type 0 where
   pub hired : List Want
   pub back : List (Option (List Order))

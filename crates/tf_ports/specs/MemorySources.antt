@@ -20,4 +20,5 @@ pub record HeldBySources : Type 0 where
 -- the bytes of the first source of that name
 abbrev pub source_at : List Source → List ℕ → Option (List ℕ)
 source_at [] name = None
-source_at (source ∷ sources) name = if pointwise ◌==◌ source.name name then Some source.bytes else source_at sources name
+source_at (source ∷ sources) name =
+    if pointwise ◌==◌ source.name name then Some source.bytes else source_at sources name

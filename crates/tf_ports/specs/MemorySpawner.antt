@@ -22,7 +22,8 @@ end_of program = record { status = program.ends.status; out = kept_of program.en
 -- how the first program of that name ends
 abbrev pub end_at : List MemoryProgram → List ℕ → Option Done
 end_at [] name = None
-end_at (program ∷ programs) name = if pointwise ◌==◌ program.name name then Some (end_of program) else end_at programs name
+end_at (program ∷ programs) name =
+    if pointwise ◌==◌ program.name name then Some (end_of program) else end_at programs name
 
 -- the program of that name may end so, whatever its arguments are
 abbrev pub EndsAs : HeldBySpawner → List ℕ → List (List ℕ) → Done → Type 0

@@ -15,7 +15,11 @@ nothing_alone result (inl is) = cc
 nothing_alone result (inr is) = cc
 
 pub played_looks_up : LooksUp IsPlayed
-played_looks_up order symbol result execute missing given = let P : Action → Given → Type 0 = λ a g. IsPlayedFor a g result in subst (P action.Execute) missing (subst (λ a. P a order.given) execute given)
+played_looks_up order symbol result execute missing given =
+    let P : Action → Given → Type 0 = λ a g. IsPlayedFor a g result in subst (P action.Execute) missing
+    (subst (λ a. P a order.given) execute given)
 
 pub played_reverts : RevertsToNothing IsPlayed
-played_reverts order result revert given = nothing_alone result (let P : Action → Type 0 = λ a. IsPlayedFor a order.given (outcome.Gave result) in subst P revert given)
+played_reverts order result revert given =
+    nothing_alone result
+    (let P : Action → Type 0 = λ a. IsPlayedFor a order.given (outcome.Gave result) in subst P revert given)

@@ -1,4 +1,5 @@
--- What the calls of a link do to the bytes that it tells of. What is told of sources and of a door, and which hands are wanted.
+-- What the calls of a link do to the bytes that it tells of. What is told of sources and of a door, and which hands are
+-- wanted.
 use Rattle.std.specs.Prelude.{◌≡◌, ℕ, ◌<◌, ◌≤◌, List, [], ◌++◌, length, take, map, Option, Some, None, option_map, vec_len}
 use Rattle.std.specs.List.{AllByRecursion}
 use Rattle.tf_ports.specs.declared.links.Came.{Came}
@@ -12,7 +13,8 @@ use Rattle.tf_ports.specs.declared.links.Came.TheVariants as came
 use Rattle.tf_ports.specs.declared.crews.Hands.TheVariants as hands
 use Rattle.tf_ports.specs.declared.crews.Want.TheVariants as want
 
--- what is seen of a link: the bytes that it has left and those that it was sent, None where it doesn't tell them; and its counts of faults and ends
+-- what is seen of a link: the bytes that it has left and those that it was sent, None where it doesn't tell them; and
+-- its counts of faults and ends
 pub record SeenLink : Type 0 where
   pub left : Option (List ℕ)
   pub sent : Option (List ℕ)
@@ -20,7 +22,8 @@ pub record SeenLink : Type 0 where
   pub ends : ℕ
 
 abbrev pub seen_link : {L : Type 0} → (L → Option (List ℕ)) → (L → Option (List ℕ)) → (L → ℕ) → (L → ℕ) → L → SeenLink
-seen_link left sent faults ends link = record { left = left link; sent = sent link; faults = faults link; ends = ends link }
+seen_link left sent faults ends link =
+    record { left = left link; sent = sent link; faults = faults link; ends = ends link }
 
 -- what was sent, with some bytes more; None, which tells nothing, stays None
 abbrev pub sent_with : Option (List ℕ) → List ℕ → Option (List ℕ)
@@ -43,7 +46,8 @@ IsNothingLeft (Some left) = left ≡ []
 -- what came: some bytes from the front of what was left, which stand first in the buffer; or the end, where
 -- nothing was left; or nothing
 abbrev pub Comes : Option (List ℕ) → Option (List ℕ) → List ℕ → Came → Type 0
-Comes before after buffer (came.Bytes count) = (0 < count) × (count ≤ length buffer) × (before ≡ left_before (take count buffer) after)
+Comes before after buffer (came.Bytes count) =
+    (0 < count) × (count ≤ length buffer) × (before ≡ left_before (take count buffer) after)
 Comes before after buffer came.End = IsNothingLeft before × (after ≡ before)
 Comes before after buffer came.Failed = after ≡ before
 
@@ -71,8 +75,8 @@ told_with_all told xs = option_map (λ before. before ++ xs) told
 
 -- ---- what a door tells
 
--- the addresses at which it was opened, in order; what was seen of each link that it gave, as it gave it; and what was seen of each link that was
--- given back to it, as it was given back
+-- the addresses at which it was opened, in order; what was seen of each link that it gave, as it gave it; and what was
+-- seen of each link that was given back to it, as it was given back
 pub record DoorTold : Type 0 where
   pub opened : Option (List Address)
   pub given : Option (List SeenLink)
@@ -107,14 +111,16 @@ AreWanted (want.Local count) (hands.Local near) = vec_len near ≡ count
 AreWanted (want.Remote addresses) (hands.Remote far) = vec_len far ≡ length addresses
 AreWanted _ _ = ⊥
 
--- the relation of orders and outcomes of the hands that are wanted: that of this process's hands, or that of those that ask workers
+-- the relation of orders and outcomes of the hands that are wanted: that of this process's hands, or that of those that
+-- ask workers
 abbrev pub gives_by : (near far : Order → Outcome → Type 0) → Want → Order → Outcome → Type 0
 gives_by near far (want.Local count) = near
 gives_by near far (want.Remote addresses) = far
 
 -- ---- what a crew tells
 
--- for each of some hands, in their order, the orders that it was given, where it tells them; None where they aren't told
+-- for each of some hands, in their order, the orders that it was given, where it tells them; None where they aren't
+-- told
 abbrev pub GivenBack : Type 0
 GivenBack = Option (List (Option (List Order)))
 
@@ -136,7 +142,8 @@ abbrev pub gave_back : CrewTold → List (Option (List Order)) → CrewTold
 gave_back told orders = record told { back = option_map (λ before. orders) told.back }
 
 -- the orders that each of these hands was given, in their order
-abbrev pub did_by : {H F : Type 0} → (H → Option (List Order)) → (F → Option (List Order)) → Hands H F → List (Option (List Order))
+abbrev pub did_by : {H F : Type 0} → (H → Option (List Order)) → (F → Option (List Order)) → Hands H F
+    → List (Option (List Order))
 did_by near_did far_did (hands.Local near) = map near_did near.items
 did_by near_did far_did (hands.Remote far) = map far_did far.items
 

@@ -29,7 +29,8 @@ pub trait Door: Drop {
     /// rose.
     fn accept(&mut self, alloc: Global) -> Result<Self::Made, PortFault>
         ensures gave { IfOk result (λ link. told self.new
-            ≡ gave_link (told self.old) (seen_link Self.Made.left Self.Made.sent Self.Made.faults Self.Made.ends link)) }
+            ≡ gave_link (told self.old)
+            (seen_link Self.Made.left Self.Made.sent Self.Made.faults Self.Made.ends link)) }
         ensures gave_none { OnErr result (told self.new ≡ told self.old) }
         ensures cause { IsErrOf result PortFault.Failed → Rises (faults self.old) (faults self.new) }
         ensures no_fall { faults self.old ≤ faults self.new };
@@ -38,7 +39,8 @@ pub trait Door: Drop {
     /// same.
     fn close(&mut self, link: Self::Made) -> Result<(), Memory>
         ensures returned { OnOk result (told self.new
-            ≡ took_back (told self.old) (seen_link Self.Made.left Self.Made.sent Self.Made.faults Self.Made.ends link)) }
+            ≡ took_back (told self.old)
+            (seen_link Self.Made.left Self.Made.sent Self.Made.faults Self.Made.ends link)) }
         ensures not_returned { OnErr result (told self.new ≡ told self.old) }
         ensures no_fall { faults self.old ≤ faults self.new };
 }

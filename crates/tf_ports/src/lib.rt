@@ -31,7 +31,7 @@ pub use memory_door::MemoryDoor;
 pub use memory_link::MemoryLink;
 pub use memory_performer::MemoryPerformer;
 pub use memory_spawner::{MemoryProgram, MemorySpawner};
-pub use programs::{Done, Output, ProgramRun, SpawnFault, Spawner, copy_texts};
+pub use programs::{Done, Output, ProgramRun, SpawnFault, Spawner};
 pub use reading::{SourceFault, Sources};
 pub use sockets::{SocketDialer, SocketDoor, SocketLink};
 pub use tf_actions::{Action, Args, Given, Order, Outcome, Pair, Performer};

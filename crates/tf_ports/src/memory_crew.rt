@@ -121,7 +121,8 @@ impl<P: Performer + Send> Crew for MemoryCrew<P> {
 
     fn dismiss(&mut self, hands: Hands<P, P>)
         ensures back { told_of self.new ≡ gave_back (told_of self.old) (did_by P.did P.did hands) }
-        ensures dialled { Some (flat_map addresses_wanted self.new.hired) ≡ Some (flat_map addresses_wanted self.old.hired) }
+        ensures dialled { Some (flat_map addresses_wanted self.new.hired)
+            ≡ Some (flat_map addresses_wanted self.old.hired) }
         ensures faults { self.new.faults ≡ self.old.faults }
     {
         self.back = Some(hands);

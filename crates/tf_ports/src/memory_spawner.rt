@@ -2,7 +2,7 @@ ghost use Rattle.std.specs.Prelude.{◌≡◌, ◌≤◌, [], length, take, Some
 ghost use Rattle.tf_numbers.specs.Numbers.{Rises};
 ghost use Rattle.tf_ports.specs.MemorySpawner.{EndsAs, end_of, end_at, kept_of};
 
-use crate::programs::{Done, OUTPUT_LIMIT, Output, ProgramRun, SpawnFault, Spawner, copy_texts};
+use crate::programs::{Done, OUTPUT_LIMIT, Output, ProgramRun, SpawnFault, Spawner};
 use std::alloc::Global;
 use std::marker::Model;
 use tf_values::{Memory, Text, Texts};
@@ -102,7 +102,7 @@ fn noted(alloc: Global, program: &Text, args: &Texts) -> Result<ProgramRun, Memo
 {
     Ok(ProgramRun {
         program: program.copy(alloc)?,
-        args: copy_texts(alloc, args)?,
+        args: args.copy(alloc)?,
     })
 }
 

@@ -86,14 +86,3 @@ pub trait Spawner: Drop {
             → (answers self.new name words done ↔ answers self.old name words done) }
         ensures no_fall { faults self.old ≤ faults self.new };
 }
-
-/// Equal texts.
-pub fn copy_texts(alloc: Global, texts: &Texts) -> Result<Texts, Memory>
-    ensures { IfOk result (λ copies. copies ≡ texts.now) }
-{
-    let mut copies = Vec::with_capacity(alloc, texts.items().len())?;
-    for text in texts.items() {
-        copies.push(text.copy(alloc)?)?;
-    }
-    Ok(Texts::make(copies))
-}

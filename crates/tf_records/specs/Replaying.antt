@@ -9,7 +9,8 @@ use Rattle.tf_journal.specs.declared.faults.LoadFault.TheVariants as load_fault
 use Rattle.tf_records.specs.Refusing.{RefusesBodies}
 
 module _ {K R : Type 0} (state : K → DeskState) (replayed : R → List (List ℕ) → Type 0) where
-  -- so much was read of a journal: bodies that come first in it were replayed into the value; the next gate stands at that place
+  -- so much was read of a journal: bodies that come first in it were replayed into the value; the next gate stands at
+  -- that place
   pub record HasReadTo (journal : Held K) (made : R) (place : ℕ) : Type 0 where
     pub before : List (List ℕ)
     pub is_replayed : replayed made before
@@ -23,10 +24,13 @@ module _ {K R : Type 0} (state : K → DeskState) (replayed : R → List (List �
     pub is_replayed : replayed made bodies
     pub size : journal.size ≡ length (prefix_of journal.title bodies) + 1
     pub limit : journal.size ≤ SIZE_LIMIT
-    pub whole : IsTrue (state journal.desk).tells → (held : List (List ℕ)) → HasBodies state journal held → held ≡ bodies
+    pub whole : IsTrue (state journal.desk).tells → (held : List (List ℕ)) → HasBodies state journal held
+        → held ≡ bodies
 
--- why a journal wasn't read back: what the fault says of its bodies is so, the disk's comes only where the count of them rose, and none is of the format
-pub record FailsToReadBack {K : Type 0} (state : K → DeskState) (refuses : List (List ℕ) → List ℕ → Type 0) (fault : LoadFault) (journal : Held K) (desk : K) : Type 0 where
+-- why a journal wasn't read back: what the fault says of its bodies is so, the disk's comes only where the count of
+-- them rose, and none is of the format
+pub record FailsToReadBack {K : Type 0} (state : K → DeskState) (refuses : List (List ℕ) → List ℕ → Type 0)
+    (fault : LoadFault) (journal : Held K) (desk : K) : Type 0 where
   pub refused : IsTrue (state journal.desk).tells → (held : List (List ℕ)) → HasBodies state journal held
       → RefusesBodies journal.title refuses fault held
   pub cause : fault ≡ load_fault.Disk → Rises (state journal.desk).disk_faults (state desk).disk_faults

@@ -43,7 +43,9 @@ pub record RunsOutAsking (order : Order) (id : ℕ) (before now : SeenLink) : Ty
 
 -- the bytes of the frame behind its length are the request, where no argument's name stands twice
 unfoldable pub IsRequestBack : Order → ℕ → Type 0
-IsRequestBack order id = names_differ (pairs_asked order.given) ≡ true → AreRequest (compact_text (request_data (request_for order id))) (request_for order id)
+IsRequestBack order id =
+    names_differ (pairs_asked order.given) ≡ true
+    → AreRequest (compact_text (request_data (request_for order id))) (request_for order id)
 
 -- whoever performs the order that the request names may give what the order itself may give, and nothing else
 abbrev pub NamesOrder : Order → ℕ → Type 0
@@ -60,9 +62,12 @@ IsReplied {E} behind came now result = IfOk result (λ outcome. (outcome ≡ cam
 
 -- over a link that doesn't fail and holds a whole reply, the outcome is the reply's
 abbrev pub TakesReply : {E : Type 0} → Order → ℕ → SeenLink → SeenLink → Result Outcome E → Type 0
-TakesReply {E} order id before now result = (came : Outcome) (bytes behind : List ℕ) → IsReply order id came bytes → HoldsReply bytes behind before now → IsReplied behind came now result
+TakesReply {E} order id before now result =
+    (came : Outcome) (bytes behind : List ℕ) → IsReply order id came bytes → HoldsReply bytes behind before now
+    → IsReplied behind came now result
 
--- the response keeps the limits of its type, and its text is read back as it, as the printer of responses promises of each that it prints
+-- the response keeps the limits of its type, and its text is read back as it, as the printer of responses promises of
+-- each that it prints
 pub record IsReadable (answer : Response) : Type 0 where
   pub part : HasPart answer
   pub reads : AreResponse (compact_text (response_data answer)) answer
@@ -72,8 +77,10 @@ pub record IsReadableExchange (exchange : Exchange) : Type 0 where
   pub running : IsReadable (response.Running exchange.request.id)
   pub outcome : IsReadable (told exchange.request.id exchange.outcome)
 
--- over a link that doesn't fail and holds the whole reply of a worker that serves, with an outcome that the order may have, the outcome
--- is the reply's
+-- over a link that doesn't fail and holds the whole reply of a worker that serves, with an outcome that the order may
+-- have, the outcome is the reply's
 abbrev pub TakesServed : {E : Type 0} → Order → ℕ → SeenLink → SeenLink → Result Outcome E → Type 0
-TakesServed {E} order id before now result = (exchange : Exchange) (behind : List ℕ) → exchange.request.id ≡ id → IsReadableExchange exchange → Gives order exchange.outcome
+TakesServed {E} order id before now result =
+    (exchange : Exchange) (behind : List ℕ) → exchange.request.id ≡ id → IsReadableExchange exchange
+    → Gives order exchange.outcome
     → HoldsReply (reply exchange) behind before now → IsReplied behind exchange.outcome now result

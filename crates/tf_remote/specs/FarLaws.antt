@@ -11,10 +11,12 @@ use Rattle.tf_actions.specs.Laws.{LooksUp, RevertsToNothing}
 use Rattle.tf_tasks.specs.GivesLaws.{gives_looks_up, gives_reverts}
 
 -- an execution with a missing symbol isn't sent
-pub missing_stays : (order : Order) (symbol : List ℕ) → order.action ≡ action.Execute → order.given ≡ given.Missing symbol → is_sent_so order.action order.given order.undo ≡ true → ⊥
+pub missing_stays : (order : Order) (symbol : List ℕ) → order.action ≡ action.Execute
+    → order.given ≡ given.Missing symbol → is_sent_so order.action order.given order.undo ≡ true → ⊥
 missing_stays order symbol execute missing sent =
     let P : Action → Given → Type 0 = λ a g. is_sent_so a g order.undo ≡ true in
-    let clash : is_sent_so action.Execute (given.Missing symbol) order.undo ≡ true = subst (P action.Execute) missing (subst (λ (a : Action). P a order.given) execute sent) in cc
+    let clash : is_sent_so action.Execute (given.Missing symbol) order.undo
+    ≡ true = subst (P action.Execute) missing (subst (λ (a : Action). P a order.given) execute sent) in cc
 
 pub far_looks_up : LooksUp GivesFar
 far_looks_up order symbol result execute missing gives = elim gives [

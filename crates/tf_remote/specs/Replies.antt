@@ -60,14 +60,15 @@ IsReply order id came bytes = RunsAndThen id (λ before behind. IsOutcomeFrame o
 -- a reply of which a frame is refused, behind so many bytes: the first frame or the second
 abbrev pub IsBadReply : Order → ℕ → ℕ → List ℕ → Type 0
 IsBadReply order id count bytes =
-    ((count ≡ 0) × IsFrameRefused (TellsRunning id) bytes) ⊎ RunsAndThen id (λ before behind. (count ≡ before) × IsFrameRefused (TellsAny order id) behind) bytes
+    ((count ≡ 0) × IsFrameRefused (TellsRunning id) bytes)
+    ⊎ RunsAndThen id (λ before behind. (count ≡ before) × IsFrameRefused (TellsAny order id) behind) bytes
 
 -- a reply that isn't whole: it stops before the end of its first frame or of its second
 abbrev pub IsReplyCut : ℕ → List ℕ → Type 0
 IsReplyCut id bytes = IsPart bytes ⊎ RunsAndThen id (λ before behind. IsPart behind) bytes
 
--- What the bytes of a reply are taken for. Lost: they are cut short, and the link is gone. Bad reply: a frame is refused. Every other
--- outcome is that of the whole reply.
+-- What the bytes of a reply are taken for. Lost: they are cut short, and the link is gone. Bad reply: a frame is
+-- refused. Every other outcome is that of the whole reply.
 abbrev pub IsTakenFor : Order → ℕ → Type 0 → List ℕ → Outcome → Type 0
 IsTakenFor order id is_gone bytes (outcome.Failed failure.Lost) = IsReplyCut id bytes × is_gone
 IsTakenFor order id is_gone bytes (outcome.Failed (failure.BadReply count)) = IsBadReply order id count bytes

@@ -1,26 +1,11 @@
 ghost use Rattle.std.specs.Prelude.{◌≡◌, ◌↔◌, IsTrue, IfOk};
-ghost use Rattle.tf_actions.specs.Gives.{is_sent as goes_far, Gives, GivesText, GivesNothing, IsProgramFailure, IsWhole};
-ghost use Rattle.tf_tasks.specs.Program.{is_program as asks_program};
+ghost use Rattle.tf_actions.specs.Gives.{Gives, GivesText, GivesNothing, IsWhole};
 ghost use Rattle.tf_remote.specs.Allowed.{GivesProgram};
 
-use crate::equality::same_failure;
 use std::alloc::Global;
-use tf_actions::{Action, Given, Order, Outcome};
-use tf_flow::{TaskKind, Undo};
-use tf_states::Failure;
-use tf_tasks::value_of;
+use tf_actions::{Action, Order, Outcome, is_program_failure};
+use tf_tasks::{is_program, value_of};
 use tf_values::{Memory, Val};
-
-/// Whether the order is asked of the worker: an execution whose arguments were found, and a revert that runs a
-/// program.
-pub fn is_sent(order: &Order) -> bool
-    ensures { result ≡ goes_far order.now }
-{
-    match order.action {
-        Action::Execute => matches!(order.given, Given::Found(_)),
-        Action::Revert => matches!(order.undo, Undo::Run(_)),
-    }
-}
 
 /// Whether the order may have this outcome.
 pub fn allows(alloc: Global, order: &Order, came: &Outcome) -> Result<bool, Memory>
@@ -32,17 +17,6 @@ pub fn allows(alloc: Global, order: &Order, came: &Outcome) -> Result<bool, Memo
     }
     let outcome = value_of(alloc, order)?;
     Ok(same_outcome(&outcome, came))
-}
-
-/// Whether a program is asked for.
-fn is_program(order: &Order) -> bool
-    ensures { result ≡ asks_program order.now }
-{
-    match (order.action, &order.given) {
-        (_, Given::Missing(_)) => false,
-        (Action::Execute, Given::Found(_)) => matches!(order.kind, TaskKind::Command),
-        (Action::Revert, Given::Found(_)) => matches!(order.undo, Undo::Run(_)),
-    }
 }
 
 /// Whether a program may end so: with a text where it is executed, with nothing where it undoes, or by a failure.
@@ -79,24 +53,13 @@ fn gives_nothing(came: &Outcome) -> bool
     }
 }
 
-/// Whether a program fails so.
-fn is_program_failure(failure: &Failure) -> bool
-    ensures { IsTrue result ↔ IsProgramFailure failure.now }
-{
-    match failure {
-        Failure::Spawn | Failure::TooLong | Failure::NotText => true,
-        Failure::Exit(status) => *status != 0,
-        _ => false,
-    }
-}
-
 /// Whether two outcomes are equal.
 fn same_outcome(outcome: &Outcome, other: &Outcome) -> bool
     ensures { IsTrue result ↔ (outcome.now ≡ other.now) }
 {
     match (outcome, other) {
         (Outcome::Gave(value), Outcome::Gave(other)) => value.same(other),
-        (Outcome::Failed(failure), Outcome::Failed(other)) => same_failure(failure, other),
+        (Outcome::Failed(failure), Outcome::Failed(other)) => failure.same(other),
         _ => false,
     }
 }

@@ -5,7 +5,6 @@ ghost use Rattle.tf_remote.specs.FarLaws.{far_looks_up, far_reverts};
 ghost use Rattle.tf_ports.specs.Ports.{seen_link};
 ghost use Rattle.tf_remote.specs.Requests.{next_id, frame_for};
 
-use crate::allowing::is_sent;
 use crate::replies::receive_reply;
 use crate::requests::frame_of;
 use std::alloc::Global;
@@ -71,7 +70,7 @@ impl<L: Link> RemoteHand<L> {
             (seen_link L.left L.sent L.faults L.ends self.old.link)
             (seen_link L.left L.sent L.faults L.ends self.new.link) result }
     {
-        if !is_sent(order) {
+        if !order.is_sent() {
             return value_of(alloc, order);
         }
         let id = self.next;

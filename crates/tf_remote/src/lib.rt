@@ -2,7 +2,6 @@
 #![tactic(auto)]
 
 mod allowing;
-mod equality;
 mod hand;
 mod hiring;
 mod receiving;

@@ -6,7 +6,6 @@ ghost use Rattle.tf_remote.specs.Requests.{kind_asked, words_asked, pairs_asked,
 use std::alloc::Global;
 use tf_actions::{Action, Args, Given, Order};
 use tf_flow::{TaskKind, Undo};
-use tf_ports::copy_texts;
 use tf_values::{Memory, Texts};
 use tf_wire::{Request, print_request};
 
@@ -54,8 +53,8 @@ fn words_of(alloc: Global, order: &Order) -> Result<Texts, Memory>
     ensures { IfOk result (λ words. words ≡ words_asked order.now.action order.now.words order.now.undo) }
 {
     match (order.action, &order.undo) {
-        (Action::Execute, _) => copy_texts(alloc, &order.words),
-        (Action::Revert, Undo::Run(words)) => copy_texts(alloc, words),
+        (Action::Execute, _) => order.words.copy(alloc),
+        (Action::Revert, Undo::Run(words)) => words.copy(alloc),
         (Action::Revert, _) => Ok(Texts::make(Vec::new(alloc))),
     }
 }

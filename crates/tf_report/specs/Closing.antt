@@ -6,8 +6,10 @@ use Rattle.std.specs.Fmt.{decimal}
 
 -- ---- how a command says what it says last, and with which status it ends
 
--- a command says its message and ends with its status, or with that of a failed output where a prefix of the message was shown
-pub data ClosesWith (before : Option (List ℕ)) (message : List ℕ) (wanted : ℕ) (after : Option (List ℕ)) : ℕ → Type 0 where
+-- a command says its message and ends with its status, or with that of a failed output where a prefix of the message
+-- was shown
+pub data ClosesWith (before : Option (List ℕ)) (message : List ℕ) (wanted : ℕ) (after : Option (List ℕ)) : ℕ
+    → Type 0 where
   said : after ≡ shown_with before message → ClosesWith before message wanted after wanted
   cut : ShowsPrefix before message after → ClosesWith before message wanted after UNSAID
 

@@ -1,4 +1,5 @@
--- What is printed: the lines of a history, the report of a run, the table of its atoms, the lines of jobs, and the lines of a book's flows.
+-- What is printed: the lines of a history, the report of a run, the table of its atoms, the lines of jobs, and the
+-- lines of a book's flows.
 use Rattle.std.specs.Prelude.{ℕ, ◌+◌, List, [], ◌∷◌, ◌++◌, codes, length, slice_get, Bool, true, false, Option, Some, None, if◌then◌else◌}
 use Rattle.std.specs.Fmt.{decimal, signed_decimal}
 use Rattle.tf_values.specs.Value.{text_form, quoted}
@@ -95,7 +96,8 @@ part_word false = codes "retry "
 
 -- what an entry says
 abbrev pub what_text : Outline → What → List ℕ
-what_text plan (what.Atom a state held) = part_word (is_task plan a) ++ atom_name plan a ++ 32 ∷ atom_word state ++ payload_text held
+what_text plan (what.Atom a state held) =
+    part_word (is_task plan a) ++ atom_name plan a ++ 32 ∷ atom_word state ++ payload_text held
 what_text plan (what.Flow state) = codes "flow " ++ flow_name plan 0 ++ 32 ∷ flow_word state
 what_text plan (what.Resolve named kind) = codes "resolve " ++ flow_name plan named ++ 32 ∷ kind_word kind
 what_text plan (what.Restart a) = codes "restart " ++ atom_name plan a
@@ -194,7 +196,8 @@ owner_text (Some name) = name
 -- the line of a job: how urgent it is, its number, its id, its name, where it stands, and who has it
 abbrev pub job_line : JobLine → List ℕ
 job_line line =
-    priority_word line.priority ++ 32 ∷ decimal line.number ++ 32 ∷ line.id ++ 32 ∷ line.name ++ 32 ∷ job_word line.state ++ 32 ∷ owner_text line.owner ++ 10 ∷ []
+    priority_word line.priority ++ 32 ∷ decimal line.number ++ 32 ∷ line.id ++ 32 ∷ line.name ++ 32
+    ∷ job_word line.state ++ 32 ∷ owner_text line.owner ++ 10 ∷ []
 
 -- ---- the flows of a book
 

@@ -66,7 +66,8 @@ fn append_ending(plan: &Plan, state: FlowState, out: &mut Vec<u8>) -> Result<(),
 #[tactic(auto, using(tf_values::proofs::GrowthLemmas::keeps_shorter))]
 fn append_unreverted(plan: &Plan, views: &[AtomView], out: &mut Vec<u8>) -> Result<(), Memory>
     ensures ok { OnOk result (out.new.items ≡ out.old.items
-        ++ unreverted_below (outline_of plan.now) (state_shown views.now) (payload_shown views.now) (count (outline_of plan.now))) }
+        ++ unreverted_below (outline_of plan.now) (state_shown views.now) (payload_shown views.now)
+        (count (outline_of plan.now))) }
     ensures err { OnErr result (KeepsPrefix out.old.items out.new.items) }
 {
     for atom in 0..plan.atoms() {

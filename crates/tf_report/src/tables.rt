@@ -63,7 +63,8 @@ fn append_flow(plan: &Plan, state: FlowState, out: &mut Vec<u8>) -> Result<(), M
 #[tactic(auto, using(tf_values::proofs::GrowthLemmas::keeps_shorter))]
 fn append_atoms(plan: &Plan, views: &[AtomView], out: &mut Vec<u8>) -> Result<(), Memory>
     ensures ok { OnOk result (out.new.items ≡ out.old.items
-        ++ atom_lines_below (outline_of plan.now) (state_shown views.now) (payload_shown views.now) (count (outline_of plan.now))) }
+        ++ atom_lines_below (outline_of plan.now) (state_shown views.now) (payload_shown views.now)
+        (count (outline_of plan.now))) }
     ensures err { OnErr result (KeepsPrefix out.old.items out.new.items) }
 {
     for atom in 0..plan.atoms() {

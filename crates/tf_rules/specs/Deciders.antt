@@ -22,4 +22,5 @@ wider_if_any (Some one) (Some other) = Some (wider one other)
 
 -- the depths of these links, as far as they refuse the task whose tests see this
 abbrev pub refusing_depths : Snapshot → Seen → List Link → List Depth
-refusing_depths s seen links = filter_map (refused_depth (outline_of seen.plan.now) s (seen_in s seen)) (deciding seen.task.now links)
+refusing_depths s seen links =
+    filter_map (refused_depth (outline_of seen.plan.now) s (seen_in s seen)) (deciding seen.task.now links)

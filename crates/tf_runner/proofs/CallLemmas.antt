@@ -1,5 +1,5 @@
 -- What conductors leave of a board that was opened, and how their command ends.
-use Rattle.std.proofs.Common.{◌≡◌, ◌≢◌, ◌⊎◌, ◌<◌, ℕ, List, [], ◌∷◌, length, Option, Some, None, refl, sym, ap, ◌∙◌, subst, inl, inr, ⊎_elim, arith, map, slice_index_or, option_map}
+use Rattle.std.proofs.Common.{◌≡◌, ◌⊎◌, ◌<◌, ℕ, List, [], ◌∷◌, length, Option, Some, None, refl, sym, ap, ◌∙◌, subst, inl, inr, ⊎_elim, arith, map, slice_index_or, option_map}
 use Rattle.std.specs.Prelude.{◌==◌, IfSome, IsTrue, slice_get, true, unwrap_or}
 use Rattle.std.specs.List.{All, AllByRecursion}
 use Rattle.std.proofs.lemmas.Bool.{eqb-true}
@@ -26,7 +26,7 @@ use Rattle.tf_ports.specs.Ports.{CrewTold, GivenBack, gave_back, hired_for}
 use Rattle.tf_ports.specs.declared.crews.Want.TheVariants as want
 use Rattle.tf_report.specs.Closing.{ClosesWith, said}
 use Rattle.tf_report.proofs.ClosingLemmas.{closes_from}
-use Rattle.tf_report.specs.declared.statuses.TheConstants.{DISK_FAILED, OUT_OF_MEMORY, UNSAID}
+use Rattle.tf_report.specs.declared.statuses.TheConstants.{DISK_FAILED, OUT_OF_MEMORY}
 use Rattle.tf_shared_board.specs.Shared.{followed_by, SharedValue, HasCause, IsShared, halt_status}
 use Rattle.tf_shared_board.proofs.HaltLemmas.{cause_told, cause_later}
 use Rattle.tf_shared_board.specs.declared.calls.BoardHalt.{BoardHalt}
@@ -185,13 +185,6 @@ empty_so [] is = refl
 empty_so (x ∷ xs) is = let none : length (x ∷ xs) ≡ 0 = eqb-true (length (x ∷ xs)) 0 is in absurd (omega (arith, none))
 
 -- ---- statuses
-
--- a status that isn't answered
-pub never_said : (n : ℕ) {status wanted : ℕ} → (status ≢ UNSAID → status ≡ wanted) → wanted ≢ n → UNSAID ≢ n → status ≢ n
-never_said n by apart no_unsaid = λ is. apart (sym (by (λ unsaid. no_unsaid (sym unsaid ∙ is))) ∙ is)
-
-pub never_told : (n : ℕ) {status wanted : ℕ} → (status ≢ UNSAID → (status ≡ wanted) ⊎ (status ≡ OUT_OF_MEMORY)) → wanted ≢ n → OUT_OF_MEMORY ≢ n → UNSAID ≢ n → status ≢ n
-never_told n by apart no_memory no_unsaid = λ is. ⊎_elim (λ same. apart (sym same ∙ is)) (λ out. no_memory (sym out ∙ is)) (by (λ unsaid. no_unsaid (sym unsaid ∙ is)))
 
 -- ---- hands
 

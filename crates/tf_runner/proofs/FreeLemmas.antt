@@ -14,9 +14,10 @@ use Rattle.tf_board.proofs.JobLemmas.{claim_free, jobs_long}
 use Rattle.tf_conductor.specs.Rounds.{Begun, IsCallBy, IsConductors, Round, begun_calls, calls_by, calls_of, claim_by, claimed, end_of_round, is_claim, nothing, run}
 use Rattle.tf_conductor.proofs.ClaimedLemmas.{legal_before}
 use Rattle.tf_conductor.proofs.HeldLemmas.{followed_on, second_all}
-use Rattle.tf_shared_board.specs.Shared.{command_of, followed_by, made_command}
-use Rattle.tf_shared_board.specs.declared.calls.JobCall.{JobCall}
-use Rattle.tf_shared_board.specs.declared.calls.JobCall.TheVariants as call
+use Rattle.tf_shared_board.specs.Shared.{followed_by, made_command}
+use Rattle.tf_board.specs.Does.{command_of}
+use Rattle.tf_board.specs.declared.calls.JobCall.{JobCall}
+use Rattle.tf_board.specs.declared.calls.JobCall.TheVariants as call
 use Rattle.tf_shared_board.specs.declared.calls.Made.{Made}
 
 -- nobody has the job of this number
@@ -78,10 +79,10 @@ stands_on past m owner n is apart = by m.call is
   where
     by : (x : JobCall) → IsCallBy owner x → standing_of (command_of x m.job ∷ past) n ≡ standing_of past n
     by (call.Post name priority details) mine = absurd mine
-    by (call.Claim id who) mine = ap (λ (b : Bool). if b then standing_after action.Claim who else standing_of past n) apart
-    by (call.Abandon id who) mine = ap (λ (b : Bool). if b then standing_after action.Abandon who else standing_of past n) apart
-    by (call.Consume id who) mine = ap (λ (b : Bool). if b then standing_after action.Consume who else standing_of past n) apart
-    by (call.Trash id who) mine = absurd mine
+    by (call.Apply action.Claim id who) mine = ap (λ (b : Bool). if b then standing_after action.Claim who else standing_of past n) apart
+    by (call.Apply action.Abandon id who) mine = ap (λ (b : Bool). if b then standing_after action.Abandon who else standing_of past n) apart
+    by (call.Apply action.Consume id who) mine = ap (λ (b : Bool). if b then standing_after action.Consume who else standing_of past n) apart
+    by (call.Apply action.Trash id who) mine = absurd mine
 
 -- and posts none
 posts_none : (past : List Command) (m : Made) (owner : List ℕ) → IsCallBy owner m.call → posted (made_command m ∷ past) ≡ posted past
@@ -89,10 +90,10 @@ posts_none past m owner is = by m.call is
   where
     by : (x : JobCall) → IsCallBy owner x → posted (command_of x m.job ∷ past) ≡ posted past
     by (call.Post name priority details) mine = absurd mine
-    by (call.Claim id who) mine = refl
-    by (call.Abandon id who) mine = refl
-    by (call.Consume id who) mine = refl
-    by (call.Trash id who) mine = absurd mine
+    by (call.Apply action.Claim id who) mine = refl
+    by (call.Apply action.Abandon id who) mine = refl
+    by (call.Apply action.Consume id who) mine = refl
+    by (call.Apply action.Trash id who) mine = absurd mine
 
 -- a call is about the job of this number
 abbrev about : ℕ → Made → Bool
@@ -165,10 +166,10 @@ module _ (owners : List (List ℕ)) (past : List Command) (made : List Made) (by
 
       claims : (x : JobCall) → is_claim x ≡ true → refuses (followed_by past pre) (command_of x m.job) ≡ None → IsFree (followed_by past pre) m.job
       claims (call.Post name priority details) claim allowed = absurd (cc)
-      claims (call.Claim id who) claim allowed = claim_of_free (followed_by past pre) m.job who allowed
-      claims (call.Abandon id who) claim allowed = absurd (cc)
-      claims (call.Consume id who) claim allowed = absurd (cc)
-      claims (call.Trash id who) claim allowed = absurd (cc)
+      claims (call.Apply action.Claim id who) claim allowed = claim_of_free (followed_by past pre) m.job who allowed
+      claims (call.Apply action.Abandon id who) claim allowed = absurd (cc)
+      claims (call.Apply action.Consume id who) claim allowed = absurd (cc)
+      claims (call.Apply action.Trash id who) claim allowed = absurd (cc)
 
       earlier : (b : Bool) → list_any (about m.job) pre ≡ b → IsFree (followed_by past pre) m.job → IsFree past m.job
       earlier true some free = free_about past pre m.job done some

@@ -1,4 +1,5 @@
--- Which flow files were read for the jobs of a board, and how a job's run may end by them. Lists of commands have the newest first.
+-- Which flow files were read for the jobs of a board, and how a job's run may end by them. Lists of commands have the
+-- newest first.
 use Rattle.std.specs.Prelude.{◌≡◌, ◌≤◌, ◌==◌, ℕ, Bool, true, List, Option, Some, None, is_some, length}
 use Rattle.std.specs.Cmp.Lexicographic.{pointwise}
 use Rattle.std.specs.List.{find, AllByRecursion}
@@ -33,7 +34,8 @@ found_in files name = find (has_file_name name) files
 
 -- under the name the sources have these bytes, which aren't too many; or more than a flow file may have
 abbrev pub IsContent : Contents → List ℕ → Content → Type 0
-IsContent contents name (content.Bytes bytes) = GivesBytes contents name bytes.items × (length bytes.items ≤ SOURCE_LIMIT)
+IsContent contents name (content.Bytes bytes) =
+    GivesBytes contents name bytes.items × (length bytes.items ≤ SOURCE_LIMIT)
 IsContent contents name content.TooLong = PassesLimit contents name
 
 -- what was read of a file is what the sources tell

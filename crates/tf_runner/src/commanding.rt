@@ -1,16 +1,13 @@
 //! The command that lets conductors work on a board.
-ghost use Rattle.std.specs.Prelude.{◌≡◌, ◌≢◌, ◌≤◌, ◌⊎◌, ℕ, List, [], IfOk, length, vec_capacity, vec_len};
+ghost use Rattle.std.specs.Prelude.{◌≡◌, ◌≢◌, ◌≤◌, ℕ, List, [], length, vec_capacity, vec_len};
 ghost use Rattle.std.specs.List.{All};
 ghost use Rattle.std.specs.Arc.{arc_value};
-ghost use Rattle.tf_board.specs.Board.{IsOpened, IsReadyBoard, IsUnopened};
-ghost use Rattle.tf_board.specs.Does.{Concludes, Ends, EndsUnmade, HasCauses, Reached};
-ghost use Rattle.tf_board.specs.declared.commands.Command.{Command};
+ghost use Rattle.tf_board.specs.Board.{IsOpened, IsReadyBoard};
+ghost use Rattle.tf_board.specs.Does.{HasCauses};
 ghost use Rattle.tf_conductor.specs.Rounds.{AreDifferent, AreNamedBy};
-ghost use Rattle.tf_journal.specs.declared.faults.LoadFault.{LoadFault as ALoadFault};
 ghost use Rattle.tf_numbers.specs.Numbers.{Rises};
 ghost use Rattle.tf_ports.specs.Ports.{Contents};
-ghost use Rattle.tf_report.specs.declared.statuses.TheConstants.{UNSAID};
-ghost use Rattle.tf_runner.specs.Conducts.{Conducts, EndsUnopened, WorksOff};
+ghost use Rattle.tf_runner.specs.Conducts.{Conducts, WorksOff};
 ghost use Rattle.tf_runner.specs.Reading.{AreReadFrom, HaveFiles};
 
 use crate::files::JobFile;
@@ -21,17 +18,13 @@ use std::alloc::Global;
 use std::sync::Wait;
 use std::thread::Threads;
 use tf_actions::Performer;
-use tf_board::{Board, not_a_book_text, open};
+use tf_board::{Board, end_unopened, end_with, open};
 use tf_conductor::conduct;
 use tf_desk::Desk;
-use tf_journal::LoadFault;
 use tf_ports::{Crew, Hands, PortFault, SourceFault, Sources, Want};
-use tf_report::{
-    CANNOT_HIRE, CANNOT_READ, DISK_FAILED, DISK_FAULT, NO_BOOK, OUT_OF_MEMORY, UNHIRED, UNREAD,
-    close,
-};
+use tf_report::{CANNOT_HIRE, CANNOT_READ, OUT_OF_MEMORY, UNHIRED, UNREAD};
 use tf_shared_board::SharedBoard;
-use tf_values::{Memory, Name, Text};
+use tf_values::{Name, Text};
 
 /// Opens the board of that name, reads the flow files of its jobs that nobody has, hires so many hands of this process, and
 /// lets as many conductors work, whose owners are named by the word and their numbers from 0. Then the hands are given back,
@@ -64,59 +57,7 @@ pub fn conduct_command<K: Desk + Send, S: Sources, W: Crew, R: Threads + Wait + 
 {
     match open(alloc, desk, name) {
         Ok(board) => read_and_conduct(rt, alloc, board, word, hands, sources, crew),
-        Err((desk, fault)) => refuse(alloc, desk, fault),
-    }
-}
-
-/// Says a message, with which the command is over.
-fn say<K: Desk>(mut desk: K, message: &[u8], status: u8) -> (K, u8)
-    requires apart { status ≢ UNSAID }
-    ensures reached { (name : List ℕ) (past pending after : List Command) (entry : K)
-        → Reached name past pending after (K.state entry) (K.state desk)
-        → Ends name past pending after (K.state entry) (K.state result.0) message.now status result.1 }
-    ensures unopened { (name : List ℕ) (fault : ALoadFault) (entry : K)
-        → IsUnopened name fault (K.state entry) (K.state desk)
-        → EndsUnmade name (K.state entry) (K.state result.0) message.now status result.1 }
-    ensures concludes { Concludes (K.state desk) (K.state result.0) result.1 }
-    ensures status { result.1 ≢ UNSAID → result.1 ≡ status }
-{
-    let status = close(message, status, &mut desk);
-    (desk, status)
-}
-
-/// Says a text, with which the command is over, unless memory ran out for it.
-fn say_text<K: Desk>(desk: K, text: Result<Vec<u8>, Memory>, status: u8) -> (K, u8)
-    requires apart { status ≢ UNSAID }
-    ensures unopened { (message : List ℕ) → IfOk text (λ t. t.items ≡ message)
-        → (name : List ℕ) (fault : ALoadFault) (entry : K)
-        → IsUnopened name fault (K.state entry) (K.state desk)
-        → EndsUnmade name (K.state entry) (K.state result.0) message status result.1 }
-    ensures concludes { Concludes (K.state desk) (K.state result.0) result.1 }
-    ensures status { result.1 ≢ UNSAID → (result.1 ≡ status) ⊎ (result.1 ≡ OUT_OF_MEMORY) }
-{
-    match text {
-        Ok(text) => say(desk, &text, status),
-        Err(_) => (desk, OUT_OF_MEMORY),
-    }
-}
-
-/// Says why a board couldn't be opened, unless memory ran out.
-fn refuse<K: Desk>(alloc: Global, desk: K, fault: LoadFault) -> (K, u8)
-    requires new_format { fault ≢ LoadFault.Old }
-    ensures ends { (name : List ℕ) (entry : K) → IsUnopened name fault (K.state entry) (K.state desk)
-        → EndsUnopened name (K.state entry) (K.state result.0) result.1 }
-    ensures concludes { Concludes (K.state desk) (K.state result.0) result.1 }
-    ensures failed { result.1 ≡ DISK_FAILED → fault ≡ LoadFault.Disk }
-    ensures apart { (result.1 ≢ UNREAD) × (result.1 ≢ UNHIRED) }
-{
-    match fault {
-        LoadFault::Disk => say(desk, DISK_FAULT, DISK_FAILED),
-        LoadFault::NotABook { offset, byte } => {
-            let text = not_a_book_text(alloc, offset, byte);
-            say_text(desk, text, NO_BOOK)
-        }
-        LoadFault::Memory => (desk, OUT_OF_MEMORY),
-        LoadFault::Old => unreachable!(),
+        Err((desk, fault)) => end_unopened(alloc, desk, fault),
     }
 }
 
@@ -144,7 +85,7 @@ fn read_and_conduct<K: Desk + Send, S: Sources, W: Crew, R: Threads + Wait + Syn
 {
     match read_files(alloc, &board, sources) {
         Ok(files) => prepare_and_conduct(rt, alloc, board, files, word, hands, crew),
-        Err(SourceFault::Read) => say(board.close(), CANNOT_READ, UNREAD),
+        Err(SourceFault::Read) => end_with(board.close(), CANNOT_READ, UNREAD),
         Err(SourceFault::TooLong) => (board.close(), OUT_OF_MEMORY),
         Err(SourceFault::Memory) => (board.close(), OUT_OF_MEMORY),
     }
@@ -219,7 +160,7 @@ fn hire_and_conduct<K: Desk + Send, W: Crew, R: Threads + Wait + Sync>(
             (desk, status)
         }
         Ok(Hands::Remote(_)) => unreachable!(),
-        Err(PortFault::Failed) => say(board.close(), CANNOT_HIRE, UNHIRED),
+        Err(PortFault::Failed) => end_with(board.close(), CANNOT_HIRE, UNHIRED),
         Err(PortFault::Memory) => (board.close(), OUT_OF_MEMORY),
     }
 }

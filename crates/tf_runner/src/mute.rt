@@ -1,7 +1,7 @@
 //! A desk for runs of which nothing is kept and nothing is said.
-ghost use Rattle.std.specs.Prelude.{◌≡◌};
+ghost use Rattle.std.specs.Prelude.{◌≡◌, None};
 ghost use Rattle.std.proofs.lemmas.Bool.{false≢true};
-ghost use Rattle.tf_desk.specs.FileDesk.{counts_alone};
+ghost use Rattle.tf_desk.specs.FileDesk.{without_content};
 
 use std::alloc::Global;
 use tf_desk::{Desk, DeskFault};
@@ -24,7 +24,7 @@ impl Mute {
 }
 
 impl Desk for Mute {
-    ghost state = { λ desk. counts_alone 0 0 0 desk.turns };
+    ghost state = { λ desk. without_content None 0 0 0 desk.turns };
 
     ghost tells_shown = { λ desk told. told };
 

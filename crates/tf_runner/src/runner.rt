@@ -12,7 +12,7 @@ use std::alloc::Global;
 use std::sync::Arc;
 use tf_accept::accept;
 use tf_actions::Performer;
-use tf_book::{Book, Halt, Room, Shelf};
+use tf_book::{Book, Buffers, Halt, Shelf};
 use tf_conductor::{Ran, Runner};
 use tf_engines::{How, RunEnd, serial};
 use tf_flow::Binds;
@@ -23,12 +23,12 @@ use tf_values::{Memory, Val};
 /// Runs jobs with one hand: the details of a job are the name of a flow file, which is one of those that were read
 /// beforehand. Nothing of a run is kept, and nothing of it is said. A run is done where its flow ended in SUCCESS; and
 /// the job is left where its details are no text, or name a file that wasn't read, is too long or gives no plan, and
-/// where the run ended otherwise or filled its book. The room of the last run serves the next one.
+/// where the run ended otherwise or filled its book. The buffers of the last run serve the next one.
 #[derive(Drop)]
 pub struct FileRunner<P> {
     hand: P,
     files: Arc<Vec<JobFile>, Global>,
-    room: Option<Room>,
+    buffers: Option<Buffers>,
 }
 
 impl<P> FileRunner<P> {
@@ -40,7 +40,7 @@ impl<P> FileRunner<P> {
         FileRunner {
             hand,
             files,
-            room: None,
+            buffers: None,
         }
     }
 
@@ -48,8 +48,12 @@ impl<P> FileRunner<P> {
     pub fn into_hand(self) -> P
         ensures { result ≡ self.hand }
     {
-        let FileRunner { hand, files, room } = self;
-        drop(room);
+        let FileRunner {
+            hand,
+            files,
+            buffers,
+        } = self;
+        drop(buffers);
         drop(files);
         hand
     }
@@ -71,7 +75,7 @@ impl<P: Performer> Runner for FileRunner<P> {
         let Some(file) = find(&self.files, name) else {
             return Ok(Ran::Left);
         };
-        run_content(alloc, &file.content, &mut self.hand, &mut self.room)
+        run_content(alloc, &file.content, &mut self.hand, &mut self.buffers)
     }
 }
 
@@ -80,12 +84,12 @@ fn run_content<P: Performer>(
     alloc: Global,
     content: &Content,
     hand: &mut P,
-    room: &mut Option<Room>,
+    buffers: &mut Option<Buffers>,
 ) -> Result<Ran, Memory>
     ensures { IfOk result (ContentRunsTo P.gives content.now) }
 {
     match content {
-        Content::Bytes(bytes) => run_bytes(alloc, bytes, hand, room),
+        Content::Bytes(bytes) => run_bytes(alloc, bytes, hand, buffers),
         Content::TooLong => Ok(Ran::Left),
     }
 }
@@ -95,12 +99,12 @@ fn run_bytes<P: Performer>(
     alloc: Global,
     bytes: &[u8],
     hand: &mut P,
-    room: &mut Option<Room>,
+    buffers: &mut Option<Buffers>,
 ) -> Result<Ran, Memory>
     ensures { IfOk result (BytesRunTo P.gives bytes.now) }
 {
     match accept(alloc, bytes, Binds::make(Vec::new(alloc)), false, None) {
-        Ok(machine) => run_plan(alloc, machine, hand, room),
+        Ok(machine) => run_plan(alloc, machine, hand, buffers),
         Err(reason) => {
             if reason.is_memory() {
                 return Err(Memory);
@@ -110,22 +114,22 @@ fn run_bytes<P: Performer>(
     }
 }
 
-/// Runs the plan of a machine, in the room of the last run, if there was one.
+/// Runs the plan of a machine, in the buffers of the last run, if there was one.
 fn run_plan<P: Performer>(
     alloc: Global,
     machine: Machine,
     hand: &mut P,
-    room: &mut Option<Room>,
+    buffers: &mut Option<Buffers>,
 ) -> Result<Ran, Memory>
     requires fresh { StandsFor machine [] }
     ensures { IfOk result (PlanRunsTo P.gives (plan_tree machine.plan)) }
 {
-    let last = match room.take() {
+    let last = match buffers.take() {
         Some(last) => last,
-        None => Room::make(alloc)?,
+        None => Buffers::make(alloc)?,
     };
     match Shelf::volatile_in(alloc, last, Mute::make()) {
-        Ok(shelf) => run_on(alloc, shelf, machine, hand, room),
+        Ok(shelf) => run_on(alloc, shelf, machine, hand, buffers),
         Err(_) => Err(Memory),
     }
 }
@@ -136,24 +140,24 @@ fn run_on<P: Performer>(
     shelf: Shelf<Mute>,
     machine: Machine,
     hand: &mut P,
-    room: &mut Option<Room>,
+    buffers: &mut Option<Buffers>,
 ) -> Result<Ran, Memory>
     requires none { shelf.elements ≡ [] }
     requires fresh { StandsFor machine [] }
     ensures { IfOk result (PlanRunsTo P.gives (plan_tree machine.plan)) }
 {
     match shelf.start(machine, true) {
-        Ok(book) => run_book(alloc, book, hand, room),
+        Ok(book) => run_book(alloc, book, hand, buffers),
         Err(_) => Err(Memory),
     }
 }
 
-/// Runs the flow of a book that keeps nothing, and keeps its room.
+/// Runs the flow of a book that keeps nothing, and keeps its buffers.
 fn run_book<P: Performer>(
     alloc: Global,
     book: Book<Mute>,
     hand: &mut P,
-    room: &mut Option<Room>,
+    buffers: &mut Option<Buffers>,
 ) -> Result<Ran, Memory>
     requires none { book.past ≡ [] }
     requires contents { book.contents ≡ begun_contents [] book.plan }
@@ -161,7 +165,7 @@ fn run_book<P: Performer>(
     ensures { IfOk result (PlanRunsTo P.gives (plan_tree book.plan)) }
 {
     let RunEnd { book, how } = serial(alloc, book, hand, None);
-    *room = Some(book.into_room());
+    *buffers = Some(book.into_buffers());
     match how {
         How::Ended(last) => Ok(ran_of(last)),
         How::Halted(halt) => left_by(halt),

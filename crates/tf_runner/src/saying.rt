@@ -1,5 +1,5 @@
 //! What is said of the calls of conductors, and the end of their command.
-ghost use Rattle.std.specs.Prelude.{◌≡◌, ◌≢◌, ◌++◌, ℕ, List, Option, Some, IfOk, OnOk};
+ghost use Rattle.std.specs.Prelude.{◌≡◌, ◌≢◌, ℕ, List, Option, Some, IfOk};
 ghost use Rattle.tf_board.specs.Does.{Concludes};
 ghost use Rattle.tf_board.specs.declared.commands.Command.{Command};
 ghost use Rattle.tf_report.specs.declared.statuses.TheConstants.{DISK_FAILED, UNHIRED, UNREAD, UNSAID};
@@ -7,29 +7,16 @@ ghost use Rattle.tf_shared_board.specs.declared.calls.BoardHalt.{BoardHalt as AH
 ghost use Rattle.tf_shared_board.specs.declared.calls.BoardHalt.TheVariants.{Disk as DiskHalt};
 ghost use Rattle.tf_shared_board.specs.declared.calls.Made.{Made as AMade};
 ghost use Rattle.tf_shared_board.specs.Shared.{IsShared, halt_status as status_of_halt};
-ghost use Rattle.tf_runner.specs.Conducts.{EndsCalls, call_text, calls_text as calls_said, closing_text};
+ghost use Rattle.tf_runner.specs.Conducts.{EndsCalls, calls_text as calls_said, closing_text};
 ghost use Rattle.tf_runner.specs.Working.{HasCalled};
 
 use std::alloc::Global;
-use tf_board::{JobAction, applied_line};
+use tf_board::call_line;
 use tf_conductor::Conducted;
 use tf_desk::Desk;
 use tf_report::{OUT_OF_MEMORY, append, close};
-use tf_shared_board::{BoardHalt, JobCall, Made, append_halt, halt_status};
+use tf_shared_board::{BoardHalt, Made, append_halt, halt_status};
 use tf_values::Memory;
-
-/// The line of a call.
-fn call_line(alloc: Global, call: &JobCall) -> Result<Vec<u8>, Memory>
-    ensures { IfOk result (λ text. text.items ≡ call_text call.now) }
-{
-    match call {
-        JobCall::Claim { id, owner } => applied_line(alloc, JobAction::Claim, id, owner),
-        JobCall::Abandon { id, owner } => applied_line(alloc, JobAction::Abandon, id, owner),
-        JobCall::Consume { id, owner } => applied_line(alloc, JobAction::Consume, id, owner),
-        JobCall::Trash { id, owner } => applied_line(alloc, JobAction::Trash, id, owner),
-        JobCall::Post { .. } => Ok(Vec::new(alloc)),
-    }
-}
 
 /// The lines of calls, in their order.
 fn calls_text(alloc: Global, made: &[Made]) -> Result<Vec<u8>, Memory>
@@ -37,7 +24,7 @@ fn calls_text(alloc: Global, made: &[Made]) -> Result<Vec<u8>, Memory>
 {
     let mut text = Vec::new(alloc);
     for call in made {
-        append(&call_line(alloc, &call.call)?, &mut text)?;
+        append(&call_line(alloc, &call.call, call.job)?, &mut text)?;
     }
     Ok(text)
 }

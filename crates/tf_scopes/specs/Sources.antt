@@ -37,7 +37,8 @@ source_among None None among = source.Given among
 
 -- from where y takes the value of a symbol
 abbrev pub source_of : Outline → ℕ → List ℕ → Source
-source_of plan y symbol = source_among (place_bound (injects plan y) symbol) (place_bound plan.store symbol) (givers plan y symbol)
+source_of plan y symbol =
+    source_among (place_bound (injects plan y) symbol) (place_bound plan.store symbol) (givers plan y symbol)
 
 -- the same of an argument
 abbrev pub source_of_argument : Outline → ℕ → Arg → Source

@@ -24,4 +24,5 @@ lists_at plan symbol place = lists_in plan symbol (slice_get (standing_of_plan p
 
 -- of each symbol the places are told of those that list it
 abbrev pub Tells : Symbols → Outline → Type 0
-Tells symbols plan = (symbol : List ℕ) → told symbols symbol ≡ which_below (length (standing_of_plan plan)) (lists_at plan symbol)
+Tells symbols plan =
+    (symbol : List ℕ) → told symbols symbol ≡ which_below (length (standing_of_plan plan)) (lists_at plan symbol)

@@ -123,7 +123,8 @@ fn add_atom(
     symbols: &mut Symbols,
 ) -> Result<(), Memory>
     ensures { OnOk result ((symbol : List ℕ) → told symbols.new symbol
-        ≡ (if lists_symbol (outline_of plan.now) symbol atom then add_once (told symbols.old symbol) place else told symbols.old symbol)) }
+        ≡ (if lists_symbol (outline_of plan.now) symbol atom then add_once (told symbols.old symbol) place
+        else told symbols.old symbol)) }
 {
     if atom >= plan.atoms() {
         return Ok(());
@@ -140,7 +141,8 @@ fn add_provided(
     symbols: &mut Symbols,
 ) -> Result<(), Memory>
     ensures { OnOk result ((symbol : List ℕ) → told symbols.new symbol
-        ≡ (if is_among (provided provides.now) symbol then add_once (told symbols.old symbol) place else told symbols.old symbol)) }
+        ≡ (if is_among (provided provides.now) symbol then add_once (told symbols.old symbol) place
+        else told symbols.old symbol)) }
 {
     match provides {
         Provides::Nothing => Ok(()),

@@ -2,7 +2,8 @@
 use Rattle.std.proofs.Common.{◌≡◌, ◌+◌, List, [], ◌∷◌, ◌++◌, length, refl, arith}
 use Rattle.tf_board.specs.declared.commands.Command.{Command}
 use Rattle.tf_shared_board.specs.declared.calls.Made.{Made}
-use Rattle.tf_shared_board.specs.Shared.{job_of, made_command, numbered, followed_by, AreAbout}
+use Rattle.tf_shared_board.specs.Shared.{made_command, numbered, followed_by, AreAbout}
+use Rattle.tf_board.specs.Does.{job_of}
 
 -- one call more
 pub followed_more : (past : List Command) (made : List Made) (m : Made) → followed_by past (made ++ m ∷ []) ≡ made_command m ∷ followed_by past made

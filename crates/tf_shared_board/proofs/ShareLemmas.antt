@@ -6,7 +6,7 @@ use Rattle.tf_desk.specs.Crash.{Pairs}
 use Rattle.tf_desk.specs.State.{DeskState, anything, GoesOn}
 use Rattle.tf_desk.proofs.StateLemmas.{goes_none, goes_on, on_disk_told}
 use Rattle.tf_board.specs.Board.{AreOfBoard, BoardValue, Holds, board_in, command_bytes, size_of}
-use Rattle.tf_board.specs.Does.{HoldsMaybe, IsRecorded, LeavesRecorded}
+use Rattle.tf_board.specs.Does.{HoldsMaybe, IsRecorded, LeavesRecorded, job_of}
 use Rattle.tf_board.specs.declared.commands.Command.{Command}
 use Rattle.tf_board.specs.declared.faults.BoardFault.{BoardFault}
 use Rattle.tf_board.specs.declared.faults.BoardFault.TheVariants as fault
@@ -14,7 +14,7 @@ use Rattle.tf_board.specs.declared.rules.Refusal.{Refusal}
 use Rattle.tf_shared_board.specs.declared.calls.BoardHalt.{BoardHalt}
 use Rattle.tf_shared_board.specs.declared.calls.BoardHalt.TheVariants as halt
 use Rattle.tf_shared_board.specs.declared.calls.Made.{Made}
-use Rattle.tf_shared_board.specs.Shared.{FailsToAsk, FailsOnDisk, IsRule, fault_for, job_of, made_command, followed_by, HasCause, IsShared, IsUnrecorded, no_pending, one_pending, HoldsSome, holds_first, holds_all, LeavesSome, KeepsFile}
+use Rattle.tf_shared_board.specs.Shared.{FailsToAsk, FailsOnDisk, IsRule, fault_for, made_command, followed_by, HasCause, IsShared, IsUnrecorded, no_pending, one_pending, HoldsSome, holds_first, holds_all, LeavesSome, KeepsFile}
 use Rattle.tf_shared_board.proofs.CallLemmas.{followed_more, about_more}
 
 -- ---- what the file has

@@ -1,5 +1,5 @@
--- A board that several share: what its calls mean, what a call does to the board, what its type keeps, and why it is halted. Lists of commands have
--- the newest first, lists of calls the oldest.
+-- A board that several share: what its calls mean, what a call does to the board, what its type keeps, and why it is
+-- halted. Lists of commands have the newest first, lists of calls the oldest.
 use Rattle.std.specs.Prelude.{◌≡◌, ℕ, ◌+◌, List, [], ◌∷◌, map, Option, None, true, IsTrue, Some, Result, Ok, Err, IfOk, IfErr, ◌⊎◌, ◌<◌, false, ◌++◌, length, IfSome}
 use Rattle.tf_numbers.specs.Numbers.{Rises}
 use Rattle.tf_desk.specs.State.{DeskState, MayLeave, GoesOn, anything}
@@ -7,59 +7,20 @@ use Rattle.tf_desk.specs.Crash.{Pairs}
 use Rattle.tf_journal.specs.Format.{SIZE_LIMIT, Recovered}
 use Rattle.tf_report.specs.Closing.{book_full, disk_fault_text}
 use Rattle.tf_report.specs.declared.statuses.TheConstants.{SUCCEEDED, DISK_FAILED, OUT_OF_MEMORY, FULL}
-use Rattle.tf_board.specs.Board.{posted, refuses_id, BoardValue, board_in, AreOfBoard, Holds, LeavesHeld, command_bytes, size_of}
-use Rattle.tf_board.specs.Does.{number_of, HoldsMaybe, LeavesRecorded, IsRecorded, IsHalted, HasNoPlace, fault_of, HoldsEither, IsBoardFull}
+use Rattle.tf_board.specs.Board.{BoardValue, board_in, AreOfBoard, Holds, LeavesHeld, command_bytes, size_of}
+use Rattle.tf_board.specs.Does.{HoldsMaybe, LeavesRecorded, IsRecorded, IsHalted, HasNoPlace, fault_of, HoldsEither, IsBoardFull, job_of, command_of, asked_for, refuses_call, id_named}
 use Rattle.tf_board.specs.declared.commands.Command.{Command}
 use Rattle.tf_board.specs.declared.rules.Refusal.{Refusal}
 use Rattle.tf_board.specs.declared.faults.BoardFault.{BoardFault}
-use Rattle.tf_shared_board.specs.declared.calls.JobCall.{JobCall}
+use Rattle.tf_board.specs.declared.calls.JobCall.{JobCall}
 use Rattle.tf_shared_board.specs.declared.calls.Made.{Made}
 use Rattle.tf_shared_board.specs.declared.calls.BoardHalt.{BoardHalt}
 use Rattle.tf_shared_board.specs.declared.calls.CallFault.{CallFault}
 use Rattle.tf_board.specs.declared.commands.Command.TheVariants as command
-use Rattle.tf_board.specs.declared.commands.JobAction.TheVariants as action
-use Rattle.tf_shared_board.specs.declared.calls.JobCall.TheVariants as call
+use Rattle.tf_board.specs.declared.calls.JobCall.TheVariants as call
 use Rattle.tf_board.specs.declared.faults.BoardFault.TheVariants as fault
 use Rattle.tf_shared_board.specs.declared.calls.BoardHalt.TheVariants as halt
 use Rattle.tf_shared_board.specs.declared.calls.CallFault.TheVariants as call_fault
-
--- ---- one call
-
--- the number of the job that a call is about, after these commands: the next one, or that of the job that its id names
-abbrev pub job_of : List Command → JobCall → ℕ
-job_of past (call.Post name priority details) = posted past + 1
-job_of past (call.Claim id owner) = number_of past id
-job_of past (call.Abandon id owner) = number_of past id
-job_of past (call.Consume id owner) = number_of past id
-job_of past (call.Trash id owner) = number_of past id
-
--- what a call records, of the job of this number
-abbrev pub command_of : JobCall → ℕ → Command
-command_of (call.Post name priority details) job = command.Post name priority details
-command_of (call.Claim id owner) job = command.Apply action.Claim job owner
-command_of (call.Abandon id owner) job = command.Apply action.Abandon job owner
-command_of (call.Consume id owner) job = command.Apply action.Consume job owner
-command_of (call.Trash id owner) job = command.Apply action.Trash job owner
-
--- what a call asks to record after these commands
-abbrev pub asked_for : List Command → JobCall → Command
-asked_for past call = command_of call (job_of past call)
-
--- why a call is refused after these commands; a job may always be posted
-abbrev pub refuses_call : List Command → JobCall → Option Refusal
-refuses_call past (call.Post name priority details) = None
-refuses_call past (call.Claim id owner) = refuses_id past action.Claim id owner
-refuses_call past (call.Abandon id owner) = refuses_id past action.Abandon id owner
-refuses_call past (call.Consume id owner) = refuses_id past action.Consume id owner
-refuses_call past (call.Trash id owner) = refuses_id past action.Trash id owner
-
--- the id that a call names; a post names none
-abbrev pub id_named : JobCall → List ℕ
-id_named (call.Post name priority details) = []
-id_named (call.Claim id owner) = id
-id_named (call.Abandon id owner) = id
-id_named (call.Consume id owner) = id
-id_named (call.Trash id owner) = id
 
 -- ---- the calls that were made
 
@@ -113,7 +74,8 @@ Sorts fault (Err halt) = fault ≡ fault_for halt
 
 module _ {K : Type 0} where
   -- it is refused for this reason, of the job of this id, and nothing changed
-  pub record IsRuled (refused : Option Refusal) (id : List ℕ) (old new : BoardValue K) (fault : BoardFault) : Type 0 where
+  pub record IsRuled (refused : Option Refusal) (id : List ℕ) (old new : BoardValue K)
+      (fault : BoardFault) : Type 0 where
     pub now : new ≡ old
     pub why : Refusal
     pub refused_is : refused ≡ Some why
@@ -126,7 +88,8 @@ module _ {K : Type 0} (state : K → DeskState) where
     pub leaves : IsTrue (state old.journal.desk).tells → (image : List ℕ) → MayLeave (state new.journal.desk) image
         → HoldsMaybe old.past added (board_in image)
 
-  -- why a call did nothing that is refused for this reason, of the job of this id, or else was to record this; and what changed
+  -- why a call did nothing that is refused for this reason, of the job of this id, or else was to record this; and what
+  -- changed
   abbrev pub FailsToAsk : Option Refusal → List ℕ → Command → BoardValue K → BoardValue K → BoardFault → Type 0
   FailsToAsk refused id added old new fault.Disk = (refused ≡ None) × FailsOnDisk added old new
   FailsToAsk refused id added old new (fault.Full size need) = (refused ≡ None) × HasNoPlace size need added old new
@@ -142,13 +105,17 @@ module _ {K : Type 0} (state : K → DeskState) where
       (result : Result ℕ BoardFault) : Type 0 where
     pub recorded : IfOk result (λ number. (number ≡ job) × (refused ≡ None) × IsRecorded state added old new)
     pub fails : IfErr result (λ fault. FailsToAsk refused id added old new fault)
-    pub goes : GoesOn (LeavesRecorded old.past added (state old.journal.desk)) (state old.journal.desk) (state new.journal.desk)
+    pub goes : GoesOn (LeavesRecorded old.past added (state old.journal.desk)) (state old.journal.desk)
+        (state new.journal.desk)
 
   -- a call as its words say
   abbrev pub Asks : JobCall → BoardValue K → BoardValue K → Result ℕ BoardFault → Type 0
-  Asks call old new result = AsksFor (refuses_call old.past call) (id_named call) (job_of old.past call) (asked_for old.past call) old new result
+  Asks call old new result =
+      AsksFor (refuses_call old.past call) (id_named call) (job_of old.past call)
+      (asked_for old.past call) old new result
 
--- the board as it was made with, and as it is now; the calls that were made since; and why it doesn't go on, if it doesn't
+-- the board as it was made with, and as it is now; the calls that were made since; and why it doesn't go on, if it
+-- doesn't
 pub record SharedValue (K : Type 0) : Type 0 where
   pub start : BoardValue K
   pub board : BoardValue K
@@ -164,15 +131,17 @@ pub record IsFull {K : Type 0} (size need : ℕ) (board : BoardValue K) : Type 0
   pub need_is : need ≡ 5 + length (command_bytes command)
   pub over : SIZE_LIMIT < size + need
 
--- The commands that aren't among those of a board, but may be in its file: none, or the one whose record met the fault of the disk that halted the
--- board, which it may hold after the others.
+-- The commands that aren't among those of a board, but may be in its file: none, or the one whose record met the fault
+-- of the disk that halted the board, which it may hold after the others.
 pub data IsUnrecorded (halted : Option BoardHalt) (past : List Command) : List Command → Type 0 where
   no_pending : IsUnrecorded halted past []
-  one_pending : (last : Command) → halted ≡ Some halt.Disk → AreOfBoard (last ∷ past) → IsUnrecorded halted past (last ∷ [])
+  one_pending : (last : Command) → halted ≡ Some halt.Disk → AreOfBoard (last ∷ past)
+      → IsUnrecorded halted past (last ∷ [])
 
 -- a file has these commands, followed by those of some first of the calls; or by those of all calls and the pending one
 pub data HoldsSome (past : List Command) (made : List Made) (pending : List Command) (found : Recovered) : Type 0 where
-  holds_first : (first others : List Made) → made ≡ first ++ others → Holds (followed_by past first) found → HoldsSome past made pending found
+  holds_first : (first others : List Made) → made ≡ first ++ others → Holds (followed_by past first) found
+      → HoldsSome past made pending found
   holds_all : Holds (pending ++ followed_by past made) found → HoldsSome past made pending found
 
 -- a crash leaves such a file, and nothing more was shown
@@ -180,14 +149,16 @@ abbrev pub LeavesSome : List Command → List Made → List Command → DeskStat
 LeavesSome past made pending entry image text = HoldsSome past made pending (board_in image) × (entry.shown ≡ Some text)
 
 module _ {K : Type 0} (state : K → DeskState) where
-  -- What the file has since the board was shared, where a crash left its commands then: the board's commands now, or the pending one too; and a crash
-  -- since leaves those from the start followed by those of some first of the calls.
+  -- What the file has since the board was shared, where a crash left its commands then: the board's commands now, or
+  -- the pending one too; and a crash since leaves those from the start followed by those of some first of the calls.
   pub record KeepsFile (s : SharedValue K) : Type 0 where
     pub pending : List Command
     pub is_pending : IsUnrecorded s.halt s.board.past pending
-    pub leaves : IsTrue (state s.start.journal.desk).tells → LeavesHeld s.start.past (state s.start.journal.desk) → (image : List ℕ)
+    pub leaves : IsTrue (state s.start.journal.desk).tells → LeavesHeld s.start.past (state s.start.journal.desk)
+        → (image : List ℕ)
         → MayLeave (state s.board.journal.desk) image → HoldsEither pending s.board.past (board_in image)
-    pub crash : GoesOn (LeavesSome s.start.past s.made pending (state s.start.journal.desk)) (state s.start.journal.desk) (state s.board.journal.desk)
+    pub crash : GoesOn (LeavesSome s.start.past s.made pending (state s.start.journal.desk))
+        (state s.start.journal.desk) (state s.board.journal.desk)
 
   -- the cause of a halt since a board was so: the count of disk faults rose, the board is full, or memory ran out
   abbrev pub HasCause : BoardValue K → BoardValue K → BoardHalt → Type 0
@@ -195,9 +166,9 @@ module _ {K : Type 0} (state : K → DeskState) where
   HasCause start now (halt.Full size need) = IsFull size need now
   HasCause start now halt.Memory = Unit {0}
 
-  -- the board's commands are those that it was made with, followed by those of the calls that were made; each call has the number of the job
-  -- that it was about; unless it is halted no append found a disk fault; no count fell, and the same file is picked; a halt has its cause;
-  -- the file has the commands, and its size is theirs, where it was
+  -- the board's commands are those that it was made with, followed by those of the calls that were made; each call has
+  -- the number of the job that it was about; unless it is halted no append found a disk fault; no count fell, and the
+  -- same file is picked; a halt has its cause; the file has the commands, and its size is theirs, where it was
   pub record IsShared (s : SharedValue K) : Type 0 where
     pub begins : s.board.past ≡ followed_by s.start.past s.made
     pub about : AreAbout s.start.past s.made
@@ -222,12 +193,14 @@ module _ {K : Type 0} (state : K → DeskState) where
     pub now : new ≡ record old { board = new.board; halt = Some halt }
     pub cause : ((old.halt ≡ Some halt) × (new.board ≡ old.board))
         ⊎ ((old.halt ≡ None)
-        × FailsToAsk state (refuses_call old.board.past call) (id_named call) (asked_for old.board.past call) old.board new.board (fault_for halt))
+        × FailsToAsk state (refuses_call old.board.past call) (id_named call)
+        (asked_for old.board.past call) old.board new.board (fault_for halt))
 
   -- why a call wasn't made: it is refused, and nothing changed; or the board is halted
   abbrev pub FailsToCall : JobCall → SharedValue K → SharedValue K → CallFault → Type 0
   FailsToCall call old new (call_fault.Rule fault) =
-      (new ≡ old) × (old.halt ≡ None) × IsRuled (refuses_call old.board.past call) (id_named call) old.board new.board fault
+      (new ≡ old) × (old.halt ≡ None) × IsRuled (refuses_call old.board.past call)
+      (id_named call) old.board new.board fault
   FailsToCall call old new (call_fault.Halted halt) = Halts call halt old new
 
 -- halted for want of memory, unless it was before
@@ -237,8 +210,8 @@ halt_or_memory (Some halt) = Some halt
 
 -- ---- why it was halted, as a command tells it
 
--- the disk failed, and the count of its faults rose; the record of a command would make the file longer than its limit, as the two numbers show; or
--- memory ran out
+-- the disk failed, and the count of its faults rose; the record of a command would make the file longer than its limit,
+-- as the two numbers show; or memory ran out
 abbrev pub HaltsFor : List Command → DeskState → DeskState → BoardHalt → Type 0
 HaltsFor past entry now halt.Disk = Rises entry.disk_faults now.disk_faults
 HaltsFor past entry now (halt.Full size need) = (last : Command) × IsBoardFull past (last ∷ []) size need

@@ -4,9 +4,9 @@ ghost use Rattle.tf_board.specs.Board.{refuses_id};
 ghost use Rattle.tf_board.specs.Does.{number_of, applied};
 ghost use Rattle.tf_shared_board.specs.Shared.{AsksFor, Asks, Sorts};
 
-use crate::calls::{BoardHalt, JobCall};
+use crate::calls::BoardHalt;
 use std::alloc::Global;
-use tf_board::{Board, BoardFault, JobAction};
+use tf_board::{Board, BoardFault, JobAction, JobCall};
 use tf_desk::Desk;
 use tf_states::Priority;
 use tf_values::{Name, Val};
@@ -59,10 +59,7 @@ pub(crate) fn ask<K: Desk>(
             priority,
             details,
         } => post(alloc, board, name, *priority, details),
-        JobCall::Claim { id, owner } => act(board, JobAction::Claim, id, owner),
-        JobCall::Abandon { id, owner } => act(board, JobAction::Abandon, id, owner),
-        JobCall::Consume { id, owner } => act(board, JobAction::Consume, id, owner),
-        JobCall::Trash { id, owner } => act(board, JobAction::Trash, id, owner),
+        JobCall::Apply { action, id, owner } => act(board, *action, id, owner),
     }
 }
 

@@ -1,34 +1,4 @@
-use tf_board::BoardFault;
-use tf_states::Priority;
-use tf_values::{Name, Val};
-use uuid::Uuid;
-
-/// What is asked of a shared board: to post a job, or that an owner claims, abandons, consumes or trashes the job that
-/// an id names.
-#[derive(Debug, Drop)]
-pub enum JobCall {
-    Post {
-        name: Name,
-        priority: Priority,
-        details: Val,
-    },
-    Claim {
-        id: Uuid,
-        owner: Name,
-    },
-    Abandon {
-        id: Uuid,
-        owner: Name,
-    },
-    Consume {
-        id: Uuid,
-        owner: Name,
-    },
-    Trash {
-        id: Uuid,
-        owner: Name,
-    },
-}
+use tf_board::{BoardFault, JobCall};
 
 /// A call that was accepted, with the number of who made it and that of its job.
 #[derive(Debug, Drop)]

@@ -6,6 +6,6 @@ mod calls;
 mod halts;
 mod shared;
 
-pub use calls::{BoardHalt, CallFault, JobCall, Made};
+pub use calls::{BoardHalt, CallFault, Made};
 pub use halts::{append_halt, halt_status};
 pub use shared::SharedBoard;

@@ -1,15 +1,15 @@
 ghost use Rattle.std.specs.Prelude.{◌≡◌, ◌<◌, ◌^◌, [], false, None, IfOk, IfErr, length, is_some};
 ghost use Rattle.tf_board.specs.Board.{AreOfBoard};
-ghost use Rattle.tf_board.specs.Does.{LeavesRecorded};
+ghost use Rattle.tf_board.specs.Does.{LeavesRecorded, asked_for};
 ghost use Rattle.tf_desk.specs.State.{GoesOn};
-ghost use Rattle.tf_shared_board.specs.Shared.{asked_for, numbered, IsShared, IsMade, FailsToCall, halt_or_memory};
+ghost use Rattle.tf_shared_board.specs.Shared.{numbered, IsShared, IsMade, FailsToCall, halt_or_memory};
 
 use crate::asking::{ask, sort};
-use crate::calls::{BoardHalt, CallFault, JobCall, Made};
+use crate::calls::{BoardHalt, CallFault, Made};
 use std::alloc::Global;
 use std::marker::Model;
 use std::snapshot::Snapshot;
-use tf_board::Board;
+use tf_board::{Board, JobCall};
 use tf_desk::Desk;
 use tf_turnstile::Kept;
 

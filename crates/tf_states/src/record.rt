@@ -1,3 +1,5 @@
+ghost use Rattle.std.specs.Prelude.{◌≡◌, ◌↔◌, IsTrue};
+
 use crate::state::{AtomState, FlowState};
 use tf_values::{Name, Text, Val};
 
@@ -36,6 +38,32 @@ pub enum Failure {
     BadReply(u32),
     /// An attempt has no value left.
     Exhausted,
+}
+
+impl Failure {
+    /// Whether the two failures are equal.
+    pub fn same(&self, other: &Failure) -> bool
+        ensures { IsTrue result ↔ (self.now ≡ other.now) }
+    {
+        match self {
+            Failure::Raised(text) => {
+                matches!(other, Failure::Raised(other) if text.bytes() == other.bytes())
+            }
+            Failure::WrongKind(name) => {
+                matches!(other, Failure::WrongKind(other) if *name == *other)
+            }
+            Failure::Overflow => matches!(other, Failure::Overflow),
+            Failure::Range => matches!(other, Failure::Range),
+            Failure::TooLong => matches!(other, Failure::TooLong),
+            Failure::Lookup(name) => matches!(other, Failure::Lookup(other) if *name == *other),
+            Failure::Exit(status) => matches!(other, Failure::Exit(other) if *status == *other),
+            Failure::Spawn => matches!(other, Failure::Spawn),
+            Failure::NotText => matches!(other, Failure::NotText),
+            Failure::Lost => matches!(other, Failure::Lost),
+            Failure::BadReply(len) => matches!(other, Failure::BadReply(other) if *len == *other),
+            Failure::Exhausted => matches!(other, Failure::Exhausted),
+        }
+    }
 }
 
 /// What an entry carries beside a state.

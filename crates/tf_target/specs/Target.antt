@@ -50,7 +50,8 @@ joins_kept names link = is_among names link.from && is_among names link.to
 
 -- what a flow has beside its items, with the links between items of these names alone
 abbrev pub kept_head : List (List ℕ) → Head → Head
-kept_head names head = record { name = head.name; kind = head.kind; retry = head.retry; links = filter (joins_kept names) head.links }
+kept_head names head =
+    record { name = head.name; kind = head.kind; retry = head.retry; links = filter (joins_kept names) head.links }
 
 -- a flow with the items at whose places the test passes, and the links between these
 abbrev pub kept_tree : (ℕ → Bool) → Tree → Tree
@@ -111,7 +112,8 @@ refuse_item plan name (Some item) = refuse_none (atom_count (target_tree plan it
 
 -- the first refusal of a target
 abbrev pub target_refusal : PlanTree → List ℕ → Option TargetFault
-target_refusal plan name = if is_graph_flow plan.root then refuse_item plan name (item_named plan name) else Some fault.NotAGraph
+target_refusal plan name =
+    if is_graph_flow plan.root then refuse_item plan name (item_named plan name) else Some fault.NotAGraph
 
 -- want of memory says nothing of the plan; every other answer is the first refusal
 abbrev pub IsTargetAnswer : Option TargetFault → TargetFault → Type 0
@@ -141,7 +143,8 @@ pub record IsTargetOf (plan : PlanTree) (name : List ℕ) (kept : PlanTree) : Ty
 
 -- no item of the root that is left out comes before one that is kept
 abbrev pub LeavesNoneBefore : PlanTree → List ℕ → Type 0
-LeavesNoneBefore plan name = (item u v : ℕ) → item_named plan name ≡ Some item → is_kept plan item u ≡ false → is_kept plan item v ≡ true
+LeavesNoneBefore plan name =
+    (item u v : ℕ) → item_named plan name ≡ Some item → is_kept plan item u ≡ false → is_kept plan item v ≡ true
     → root_item_before (outline_in plan) v u ≡ false
 
 -- ---- what is the same of what is kept as of the whole plan
@@ -153,8 +156,10 @@ LeavesNoneBefore plan name = (item u v : ℕ) → item_named plan name ≡ Some 
 pub record KeepsOrder (plan kept : Outline) : Type 0 where
   pub item : ℕ → ℕ
   pub atom : ℕ → ℕ
-  pub names : (u : ℕ) → u < length (flow_at kept.flows 0).place.items → item_name (flow_at kept.flows 0).place u ≡ item_name (flow_at plan.flows 0).place (item u)
-  pub linked : (u v : ℕ) → u < length (flow_at kept.flows 0).place.items → v < length (flow_at kept.flows 0).place.items → has_pair (flow_at kept.flows 0).linked u v ≡ has_pair (flow_at plan.flows 0).linked (item u) (item v)
+  pub names : (u : ℕ) → u < length (flow_at kept.flows 0).place.items
+      → item_name (flow_at kept.flows 0).place u ≡ item_name (flow_at plan.flows 0).place (item u)
+  pub linked : (u v : ℕ) → u < length (flow_at kept.flows 0).place.items → v < length (flow_at kept.flows 0).place.items
+      → has_pair (flow_at kept.flows 0).linked u v ≡ has_pair (flow_at plan.flows 0).linked (item u) (item v)
   pub parts : (a : ℕ) → part_at kept.atoms a ≡ part_at plan.atoms (atom a)
   pub before : (a b : ℕ) → is_before kept a b ≡ is_before plan (atom a) (atom b)
   pub scopes : (a : ℕ) → map atom (members kept a) ≡ members plan (atom a)

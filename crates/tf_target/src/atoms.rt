@@ -3,18 +3,18 @@
 ghost use Rattle.std.specs.Prelude.{◌≡◌, IfOk};
 
 use std::alloc::Global;
-use tf_flow::{Arg, ArgList, Bind, Binds, Provides, Retry, RetryKind, Task, Undo};
-use tf_values::{Memory, Name, Names, Text, Texts};
+use tf_flow::{Arg, ArgList, Bind, Binds, Provides, Retry, RetryKind, Task};
+use tf_values::{Memory, Name, Names};
 
 /// An equal task.
 pub fn copy_task(alloc: Global, task: &Task) -> Result<Task, Memory>
     ensures { IfOk result (λ copy. copy ≡ task.now) }
 {
-    let words = copy_texts(alloc, &task.words)?;
+    let words = task.words.copy(alloc)?;
     let args = copy_args(alloc, &task.args)?;
     let inject = copy_binds(alloc, &task.inject)?;
     let provides = copy_provides(alloc, &task.provides)?;
-    let undo = copy_undo(alloc, &task.undo)?;
+    let undo = task.undo.copy(alloc)?;
     Ok(Task {
         name: task.name,
         kind: task.kind,
@@ -109,29 +109,9 @@ fn copy_provides(alloc: Global, provides: &Provides) -> Result<Provides, Memory>
     }
 }
 
-fn copy_undo(alloc: Global, undo: &Undo) -> Result<Undo, Memory>
-    ensures { IfOk result (λ copy. copy ≡ undo.now) }
-{
-    match undo {
-        Undo::Pass => Ok(Undo::Pass),
-        Undo::Fail => Ok(Undo::Fail),
-        Undo::Run(words) => Ok(Undo::Run(copy_texts(alloc, words)?)),
-    }
-}
-
 fn copy_names(alloc: Global, names: &Names) -> Result<Names, Memory>
     ensures { IfOk result (λ copy. copy ≡ names.now) }
 {
     let copies: Vec<Name> = names.items().to_vec(alloc)?;
     Ok(Names::make(copies))
-}
-
-fn copy_texts(alloc: Global, texts: &Texts) -> Result<Texts, Memory>
-    ensures { IfOk result (λ copies. copies ≡ texts.now) }
-{
-    let mut copies: Vec<Text> = Vec::with_capacity(alloc, texts.items().len())?;
-    for text in texts.items() {
-        copies.push(text.copy(alloc)?)?;
-    }
-    Ok(Texts::make(copies))
 }

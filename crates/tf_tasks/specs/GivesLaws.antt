@@ -20,14 +20,17 @@ undone_is_nothing undo.Pass result is = cc
 undone_is_nothing undo.Fail result is = cc
 undone_is_nothing (undo.Run words) result is = is
 
-pub reverted_is_nothing : (order : Order) (arguments : Given) (result : Val) → GivesFor action.Revert order arguments (outcome.Gave result) → result ≡ value.Nothing
+pub reverted_is_nothing : (order : Order) (arguments : Given) (result : Val)
+    → GivesFor action.Revert order arguments (outcome.Gave result) → result ≡ value.Nothing
 reverted_is_nothing order (given.Found pairs) result is = undone_is_nothing order.undo result is
 reverted_is_nothing order (given.Missing symbol) result is = cc
 
 pub gives_looks_up : LooksUp Gives
 gives_looks_up order symbol result execute missing gives =
-    let P : Action → Given → Type 0 = λ a g. GivesFor a order g result in subst (P action.Execute) missing (subst (λ a. P a order.given) execute gives)
+    let P : Action → Given → Type 0 = λ a g. GivesFor a order g result in subst (P action.Execute) missing
+    (subst (λ a. P a order.given) execute gives)
 
 pub gives_reverts : RevertsToNothing Gives
 gives_reverts order result revert gives =
-    let P : Action → Type 0 = λ a. GivesFor a order order.given (outcome.Gave result) in reverted_is_nothing order order.given result (subst P revert gives)
+    let P : Action → Type 0 = λ a. GivesFor a order order.given
+    (outcome.Gave result) in reverted_is_nothing order order.given result (subst P revert gives)

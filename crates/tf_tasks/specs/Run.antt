@@ -36,7 +36,9 @@ without_feed bytes = if is_feed (slice_get bytes (length bytes - 1)) then take (
 
 -- the text of bytes that are few enough for one (a last line feed never decides whether bytes are UTF-8)
 abbrev pub spelled : List ℕ → Outcome
-spelled bytes = if is_text (without_feed bytes) then outcome.Gave (value.Text (without_feed bytes)) else outcome.Failed failure.NotText
+spelled bytes =
+    if is_text (without_feed bytes) then outcome.Gave (value.Text (without_feed bytes))
+    else outcome.Failed failure.NotText
 
 -- what an output gives
 abbrev pub output_gives : List ℕ → Outcome
@@ -51,15 +53,18 @@ is_zero (negsuc n) = false
 abbrev pub ended : Done → Outcome
 ended done = if is_zero done.status then output_gives done.out else outcome.Failed (failure.Exit done.status)
 
--- what is seen of a spawner around a call: how its programs may end, whether its count of faults rose, and which programs it had run before and after
+-- what is seen of a spawner around a call: how its programs may end, whether its count of faults rose, and which
+-- programs it had run before and after
 pub record Spawns : Type 1 where
   pub answers : List ℕ → List (List ℕ) → Done → Type 0
   pub rose : Type 0
   pub before : Option (List ProgramRun)
   pub after : Option (List ProgramRun)
 
-abbrev pub spawns : {S : Type 0} → (S → List ℕ → List (List ℕ) → Done → Type 0) → (S → ℕ) → (S → Option (List ProgramRun)) → S → S → Spawns
-spawns answers faults ran old new = record { answers = answers old; rose = Rises (faults old) (faults new); before = ran old; after = ran new }
+abbrev pub spawns : {S : Type 0} → (S → List ℕ → List (List ℕ) → Done → Type 0) → (S → ℕ)
+    → (S → Option (List ProgramRun)) → S → S → Spawns
+spawns answers faults ran old new =
+    record { answers = answers old; rose = Rises (faults old) (faults new); before = ran old; after = ran new }
 
 -- no program was run
 abbrev pub RunsNone : Spawns → Type 0
@@ -87,7 +92,8 @@ run_for program words pairs = record { program = program; args = words ++ map pl
 -- what comes of the program of these words
 abbrev pub RunsTo : Spawns → List (List ℕ) → List Pair → Outcome → Type 0
 RunsTo seen [] pairs result = ⊥
-RunsTo seen (program ∷ words) pairs result = RunsWith (list_all has_text pairs) seen (run_for program words pairs) result
+RunsTo seen (program ∷ words) pairs result =
+    RunsWith (list_all has_text pairs) seen (run_for program words pairs) result
 
 -- where memory ran out it was run once, or not at all
 abbrev pub RunsAtMost : Spawns → List (List ℕ) → List Pair → Type 0
@@ -103,7 +109,8 @@ dropped (outcome.Failed fault) = outcome.Failed fault
 abbrev pub UndoesTo : Spawns → Undo → List Pair → Outcome → Type 0
 UndoesTo seen undo.Pass pairs result = ⊥
 UndoesTo seen undo.Fail pairs result = ⊥
-UndoesTo seen (undo.Run words) pairs result = (full : Outcome) × (RunsTo seen words pairs full) × (result ≡ dropped full)
+UndoesTo seen (undo.Run words) pairs result =
+    (full : Outcome) × (RunsTo seen words pairs full) × (result ≡ dropped full)
 
 -- where memory ran out it was run once, or not at all
 abbrev pub UndoesAtMost : Spawns → Undo → List Pair → Type 0

@@ -9,4 +9,4 @@ mod plain;
 mod runs;
 
 pub use built_ins::value_of;
-pub use local::LocalHand;
+pub use local::{LocalHand, is_program};

@@ -3,7 +3,7 @@ ghost use Rattle.std.specs.List.{list_all};
 ghost use Rattle.tf_actions.specs.Gives.{Gives, GivesNothing, IsWhole};
 ghost use Rattle.tf_flow.specs.declared.atoms.Undo.TheVariants as undo;
 ghost use Rattle.tf_tasks.specs.GivesLaws.{gives_looks_up, gives_reverts};
-ghost use Rattle.tf_tasks.specs.Program.{is_program, runs_program, IsUnspawned};
+ghost use Rattle.tf_tasks.specs.Program.{is_program as asks_program, runs_program, IsUnspawned};
 ghost use Rattle.tf_tasks.specs.Run.{has_text, spawns, ObeysOrder, RunsOutOnOrder, RunsTo, RunsAtMost, UndoesTo};
 
 use crate::built_ins::value_of;
@@ -13,6 +13,17 @@ use tf_actions::{Action, Given, Order, Outcome, Pair, Performer};
 use tf_flow::{TaskKind, Undo};
 use tf_ports::Spawner;
 use tf_values::{Memory, Text};
+
+/// Whether a program is asked for: a command is executed, or an undo that is a program, and the arguments were found.
+pub fn is_program(order: &Order) -> bool
+    ensures { result ≡ asks_program order.now }
+{
+    match (order.action, &order.given) {
+        (_, Given::Missing(_)) => false,
+        (Action::Execute, Given::Found(_)) => matches!(order.kind, TaskKind::Command),
+        (Action::Revert, Given::Found(_)) => matches!(order.undo, Undo::Run(_)),
+    }
+}
 
 /// The hand that performs orders in this process: built-in tasks itself, and programs by its spawner. It
 /// doesn't keep its orders.
@@ -43,9 +54,9 @@ impl<S: Spawner> LocalHand<S> {
     pub fn obey(&mut self, alloc: Global, order: &Order) -> Result<Outcome, Memory>
         requires whole { IsWhole order.now }
         ensures gives { IfOk result (λ outcome. Gives order.now outcome) }
-        ensures program { is_program order.now ≡ true → IfOk result (λ outcome. ObeysOrder
+        ensures program { asks_program order.now ≡ true → IfOk result (λ outcome. ObeysOrder
             (spawns S.answers S.faults S.ran self.old.spawner self.new.spawner) order.now outcome) }
-        ensures at_most { is_program order.now ≡ true → OnErr result (RunsOutOnOrder
+        ensures at_most { asks_program order.now ≡ true → OnErr result (RunsOutOnOrder
             (spawns S.answers S.faults S.ran self.old.spawner self.new.spawner) order.now) }
         ensures unrun { runs_program order.now ≡ false → self.new ≡ self.old }
         ensures no_fall { S.faults self.old.spawner ≤ S.faults self.new.spawner }

@@ -9,11 +9,13 @@ use Rattle.tf_turnstile.specs.Numbered.{AreNumberedBelow, IsLater}
 
 -- what the first seat knows: it is the last one in number, and makes the others
 abbrev pub first_view : {B E : Type 0} → B → View B E
-first_view start = record { marker = record {}; start = Some start; number = 0; seen = []; taken = None; is_last = true; back = [] }
+first_view start =
+    record { marker = record {}; start = Some start; number = 0; seen = []; taken = None; is_last = true; back = [] }
 
 -- what a seat knows that was given back
 abbrev pub spent_view : {B E : Type 0} → View B E
-spent_view = record { marker = record {}; start = None; number = 0; seen = []; taken = None; is_last = false; back = [] }
+spent_view =
+    record { marker = record {}; start = None; number = 0; seen = []; taken = None; is_last = false; back = [] }
 
 -- a seat becomes a pass, and the new seat the last one, with the next number
 abbrev pub left_view : {B E : Type 0} → View B E → View B E
@@ -32,8 +34,10 @@ module _ {B E : Type 0} where
   AreBack added views back = (i : ℕ) (seen : List (ℕ × E)) → get_elem? back i ≡ some seen
       → IsLater i seen added × ((v : View B E) → get_elem? views i ≡ some v → v.start ≡ None)
 
-  -- what the seat i knows is true: of the value now, the entries added so far, the turn word and the seat that has the value
-  pub record Fits (start now : B) (added : List (ℕ × E)) (turn by : ℕ) (views : List (View B E)) (i : ℕ) (v : View B E) : Type 0 where
+  -- what the seat i knows is true: of the value now, the entries added so far, the turn word and the seat that has the
+  -- value
+  pub record Fits (start now : B) (added : List (ℕ × E)) (turn by : ℕ) (views : List (View B E)) (i : ℕ)
+      (v : View B E) : Type 0 where
     pub taken : (b : B) → v.taken ≡ Some b → (b ≡ now) × (i ≡ by) × (turn ≢ 0)
     pub live : (b : B) → v.start ≡ Some b → (b ≡ start) × (v.number ≡ i) × IsLater i v.seen added
     pub spent : v.start ≡ None → (v.taken ≡ None) × (v.is_last ≡ false)
@@ -54,4 +58,5 @@ module _ {B O E : Type 0} (origin : B → O) (first : B → ℕ) (entries : B �
     pub count : slice_index s.words 1 ≡ first now + length (entries now)
     pub home : slice_index s.words 0 ≡ 0 → get_elem? s.homes 0 ≡ some (some (Some now))
     pub out : slice_index s.words 0 ≢ 0 → (v : View B E) × (get_elem? s.views by ≡ some v) × (v.taken ≡ Some now)
-    pub fits : (i : ℕ) (v : View B E) → get_elem? s.views i ≡ some v → Fits opening.kept.value now added (slice_index s.words 0) by s.views i v
+    pub fits : (i : ℕ) (v : View B E) → get_elem? s.views i ≡ some v
+        → Fits opening.kept.value now added (slice_index s.words 0) by s.views i v

@@ -10,7 +10,8 @@ pub record TurnstileValue (B : Type 0) : Type 0 where
   pub start : B
   pub passes : ℕ
 
--- a pass: its turnstile's table and first value, its number, the entries after the first ones that it has seen, and the value that it has taken
+-- a pass: its turnstile's table and first value, its number, the entries after the first ones that it has seen, and the
+-- value that it has taken
 pub record PassValue (B E : Type 0) : Type 0 where
   pub table : TableId
   pub start : Option B
@@ -32,7 +33,8 @@ module _ {B E : Type 0} where
 
   -- the pass of this number as it is made: nothing seen after the first entries, and nothing taken
   abbrev pub new_pass : TurnstileValue B → ℕ → PassValue B E
-  new_pass turnstile number = record { table = turnstile.table; start = Some turnstile.start; number = number; seen = []; taken = None }
+  new_pass turnstile number =
+      record { table = turnstile.table; start = Some turnstile.start; number = number; seen = []; taken = None }
 
   -- as many passes as the turnstile was made for, in the order of their numbers, as they are made
   pub record AreNew (turnstile : TurnstileValue B) (passes : List (PassValue B E)) : Type 0 where
@@ -45,7 +47,8 @@ module _ {B E : Type 0} where
     pub each : (i : ℕ) (d : PassValue B E) → i < length passes → IsIdle turnstile i (slice_index_or passes i d)
 
 module _ {B O E : Type 0} (origin : B → O) (entries : B → List (ℕ × E)) where
-  -- the pass may give this value: it has what the value that was taken may never change, and that one's entries with the pass's own after them
+  -- the pass may give this value: it has what the value that was taken may never change, and that one's entries with
+  -- the pass's own after them
   pub record MayGive (pass : PassValue B E) (kept : B) : Type 0 where
     pub taken : B
     pub has : pass.taken ≡ Some taken
@@ -53,7 +56,8 @@ module _ {B O E : Type 0} (origin : B → O) (entries : B → List (ℕ × E)) w
     pub longer : IsLonger pass.number (entries taken) (entries kept)
 
 module _ {B E : Type 0} (entries : B → List (ℕ × E)) where
-  -- the value in the end: entries came after the first ones, each with the number of a pass; to each pass they are what it has seen with entries of others after it, and those of its number are its own, in its order
+  -- the value in the end: entries came after the first ones, each with the number of a pass; to each pass they are what
+  -- it has seen with entries of others after it, and those of its number are its own, in its order
   pub record HasGrown (turnstile : TurnstileValue B) (passes : List (PassValue B E)) (kept : B) : Type 0 where
     pub added : List (ℕ × E)
     pub history : entries kept ≡ entries turnstile.start ++ added

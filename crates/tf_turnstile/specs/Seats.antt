@@ -8,7 +8,15 @@ use Rattle.tf_turnstile.specs.Passes.{PassValue}
 
 -- the pass that has this seat
 abbrev pub pass_of : {B E : Type 0} → Seat (Option B) (View B E) → PassValue B E
-pass_of seat = record { table = seat.table_id; start = seat.me.0.start; number = seat.me.0.number; seen = seat.me.0.seen; taken = seat.me.0.taken }
+pass_of seat =
+    record {
+      table = seat.table_id;
+      start = seat.me.0.start;
+      number = seat.me.0.number;
+      seen = seat.me.0.seen;
+      taken =
+          seat.me.0.taken;
+    }
 
 -- a turnstile's table has three words and one slot
 abbrev pub IsSized : TableId → Type 0
@@ -43,8 +51,10 @@ emptied None = []
 emptied (Some b) = (0, None) ∷ []
 
 module _ {B O E : Type 0} (origin : B → O) (entries : B → List (ℕ × E)) where
-  -- a value that was taken has what the first value may never change, and the first entries with those that were seen after them; no other seat was given back
+  -- a value that was taken has what the first value may never change, and the first entries with those that were seen
+  -- after them; no other seat was given back
   pub record IsPassSeat (v : View B E) (slots : List (ℕ × Option B)) : Type 0 where
     pub none_back : v.back ≡ []
     pub slots_are : slots ≡ emptied v.taken
-    pub taken_is : (a b : B) → v.start ≡ Some a → v.taken ≡ Some b → (origin b ≡ origin a) × (entries b ≡ entries a ++ v.seen)
+    pub taken_is : (a b : B) → v.start ≡ Some a → v.taken ≡ Some b → (origin b ≡ origin a)
+        × (entries b ≡ entries a ++ v.seen)

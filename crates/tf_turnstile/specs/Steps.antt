@@ -7,7 +7,8 @@ use Rattle.tf_turnstile.specs.Numbered.{IsLater}
 module _ {B E : Type 0} where
   -- the exchange out: where the turn word was 0 the seat has the slot, with the value in it; otherwise nothing changed
   abbrev pub takes_out : Step (Option B) → Me (Option B) (View B E) → ℕ → Me (Option B) (View B E) → Type 0
-  takes_out s m found n = (found ≡ 0 → (b : B) × (n ≡ (record m.0 { taken = Some b }, (0, Some b) ∷ []))) × (found ≢ 0 → n ≡ m)
+  takes_out s m found n =
+      (found ≡ 0 → (b : B) × (n ≡ (record m.0 { taken = Some b }, (0, Some b) ∷ []))) × (found ≢ 0 → n ≡ m)
 
   -- a load without the value in hand, or a step on the bell: nothing is learned
   abbrev pub tells_nothing : Step (Option B) → Me (Option B) (View B E) → ℕ → Me (Option B) (View B E) → Type 0
@@ -34,4 +35,5 @@ module _ {B O E : Type 0} (origin : B → O) (first : B → ℕ) (entries : B �
   -- the count: the seat has seen the history of the value that it has put into the slot
   abbrev pub counts : Step (Option B) → Me (Option B) (View B E) → ℕ → Me (Option B) (View B E) → Type 0
   counts s m stored n = (a kept : B) → m.0.start ≡ Some a → m.1 ≡ (0, Some kept) ∷ []
-      → (seen : List (ℕ × E)) × (entries kept ≡ entries a ++ seen) × (n ≡ (record m.0 { seen = seen; taken = Some kept }, m.1))
+      → (seen : List (ℕ × E)) × (entries kept ≡ entries a ++ seen)
+      × (n ≡ (record m.0 { seen = seen; taken = Some kept }, m.1))

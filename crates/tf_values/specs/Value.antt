@@ -24,7 +24,8 @@ quoted_byte byte =
     else if byte == 92 then 92 ∷ 92 ∷ []
     else if byte == 10 then 92 ∷ 110 ∷ []
     else if byte == 9 then 92 ∷ 116 ∷ []
-    else if nat_lt byte 32 || byte == 127 then 92 ∷ 117 ∷ 48 ∷ 48 ∷ hexadecimal (byte / 16) ∷ hexadecimal (byte % 16) ∷ []
+    else if nat_lt byte 32 || byte == 127 then 92 ∷ 117 ∷ 48 ∷ 48 ∷ hexadecimal (byte / 16) ∷ hexadecimal (byte % 16)
+    ∷ []
     else byte ∷ []
 
 -- a text in double quotes

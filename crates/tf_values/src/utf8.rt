@@ -82,6 +82,17 @@ impl Texts {
         Texts { items }
     }
 
+    /// Equal texts, in the same order.
+    pub fn copy(&self, alloc: Global) -> Result<Texts, Memory>
+        ensures { IfOk result (λ copies. copies ≡ self.now) }
+    {
+        let mut copies = Vec::with_capacity(alloc, self.items().len())?;
+        for text in self.items() {
+            copies.push(text.copy(alloc)?)?;
+        }
+        Ok(Texts::make(copies))
+    }
+
     /// The texts, in order.
     pub fn items(&self) -> &[Text]
         ensures { result.now ≡ self.now }

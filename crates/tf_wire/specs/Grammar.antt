@@ -1,4 +1,5 @@
--- The words of messages. What JSON spells: values, failures, and the parts of messages. The order that a request names. The messages that frames spell. Messages as JSON. The members of an object stand in the byte order of their keys.
+-- The words of messages. What JSON spells: values, failures, and the parts of messages. The order that a request names.
+-- The messages that frames spell. Messages as JSON. The members of an object stand in the byte order of their keys.
 use Rattle.std.specs.Prelude.{ℕ, List, codes, ◌^◌, ℤ, pos, negsuc, int_le, nat_lt, nat_eq, [], ◌∷◌, ◌&&◌, Option, Some, None, option_map, option_and_then, if◌then◌else◌, ◌≡◌, nat_le, length, Bool, true, not, map}
 use Rattle.tf_flow.specs.declared.atoms.TaskKind.{TaskKind}
 use Rattle.tf_actions.specs.declared.outcomes.Action.{Action}
@@ -241,15 +242,18 @@ request_of found = if nat_eq (size_of found) 5 then request_members found else N
 
 -- the answer of that id that an order gave this, and that it failed so
 abbrev pub success_members : Data → Option Response
-success_members found = chain (at (codes "id") id_of found) (λ id. option_map (response.Success id) (at (codes "result") value_of found))
+success_members found =
+    chain (at (codes "id") id_of found) (λ id. option_map (response.Success id) (at (codes "result") value_of found))
 
 abbrev pub failure_members : Data → Option Response
-failure_members found = chain (at (codes "id") id_of found) (λ id. option_map (response.Failure id) (at (codes "failure") failure_of found))
+failure_members found =
+    chain (at (codes "id") id_of found) (λ id. option_map (response.Failure id) (at (codes "failure") failure_of found))
 
 -- the state says which members there are beside it, and there are no others
 abbrev pub response_named : Data → List ℕ → Option Response
 response_named found word =
-    if same_name word (codes "RUNNING") then (if nat_eq (size_of found) 2 then option_map response.Running (at (codes "id") id_of found) else None)
+    if same_name word (codes "RUNNING") then
+    (if nat_eq (size_of found) 2 then option_map response.Running (at (codes "id") id_of found) else None)
     else if same_name word (codes "SUCCESS") then (if nat_eq (size_of found) 3 then success_members found else None)
     else if same_name word (codes "FAILURE") then (if nat_eq (size_of found) 3 then failure_members found else None)
     else None
@@ -397,7 +401,9 @@ object_of_request how args id kind words = object
 
 -- a request
 abbrev pub request_data : Request → Data
-request_data request = object_of_request (action_word request.action) (array (items_of (map pair_data request.args))) request.id (kind_word request.kind) (array (items_of (map string request.words)))
+request_data request =
+    object_of_request (action_word request.action) (array (items_of (map pair_data request.args))) request.id
+    (kind_word request.kind) (array (items_of (map string request.words)))
 
 -- the answer that an order runs, that it gave this, and that it failed so
 abbrev pub running_data : ℕ → Data

@@ -1,4 +1,5 @@
--- A stream of frames. A frame stands in it behind its length, in four bytes. What is kept of a stream that comes piece by piece.
+-- A stream of frames. A frame stands in it behind its length, in four bytes. What is kept of a stream that comes piece
+-- by piece.
 use Rattle.std.specs.Prelude.{◌≡◌, ℕ, ◌<◌, ◌^◌, List, ◌++◌, Bool, true, false, ◌&&◌, nat_lt, nat_le, length, ◌+◌, ◌-◌, [], min, drop, ◌⊎◌}
 use Rattle.std.specs.List.{flat_map, AllByRecursion}
 use Rattle.std.specs.Int.{to_be_bytes, w32}
@@ -104,7 +105,8 @@ pub record StopsAt (kept : KeptFrames) (stream : List ℕ) (taken : List (List �
 -- a piece of the stream is answered so: the stream is refused with it, or memory ran out before or behind it
 abbrev pub IsPieceAnswer : KeptFrames → List ℕ → List ℕ → List (List ℕ) → WireFault → Type 0
 IsPieceAnswer kept stream piece taken (fault.Bad at) = StopsAt kept (stream ++ piece) taken at
-IsPieceAnswer kept stream piece taken fault.Memory = KeepsStream kept stream taken ⊎ KeepsStream kept (stream ++ piece) taken
+IsPieceAnswer kept stream piece taken fault.Memory =
+    KeepsStream kept stream taken ⊎ KeepsStream kept (stream ++ piece) taken
 
 -- the frames in so many bytes at the front were kept behind those before
 pub record KeepsFrames (bytes : List ℕ) (before after : List (List ℕ)) (len : ℕ) : Type 0 where

@@ -30,16 +30,6 @@ fn undo_of(alloc: Global, action: Action, words: &Texts) -> Result<Undo, Memory>
 {
     match action {
         Action::Execute => Ok(Undo::Pass),
-        Action::Revert => Ok(Undo::Run(copy_texts(alloc, words)?)),
+        Action::Revert => Ok(Undo::Run(words.copy(alloc)?)),
     }
-}
-
-fn copy_texts(alloc: Global, texts: &Texts) -> Result<Texts, Memory>
-    ensures { IfOk result (λ copies. copies ≡ texts.now) }
-{
-    let mut copies = Vec::with_capacity(alloc, texts.items().len())?;
-    for text in texts.items() {
-        copies.push(text.copy(alloc)?)?;
-    }
-    Ok(Texts::make(copies))
 }

@@ -1,13 +1,8 @@
--- The words behind those that choose a command, and words that spell nothing.
-use Rattle.std.proofs.Common.{◌≡◌, ℕ, List, ◌∷◌, true, Option, Some, None, refl, sym, ap, ◌∙◌}
+-- The words behind those that choose a command.
+use Rattle.std.proofs.Common.{◌≡◌, ℕ, List, ◌∷◌, true, sym, ap, ◌∙◌}
 use Rattle.tf_numbers.proofs.TruthLemmas.{and_second}
 use Rattle.tf_words.specs.Verbs.{is_filled, are_filled}
 
 -- the words behind the first are filled where all are
 pub filled_behind : (words others : List (List ℕ)) (first : List ℕ) → words ≡ first ∷ others → are_filled words ≡ true → are_filled others ≡ true
 filled_behind words others first is filled = and_second (is_filled first) (are_filled others) (sym (ap are_filled is) ∙ filled)
-
--- what isn't something is nothing
-pub none_of : {A : Type 0} (o : Option A) → ((a : A) × (o ≡ Some a) → ⊥) → None ≡ o
-none_of None never = refl
-none_of (Some a) never = absurd (never (a, refl))

@@ -1,13 +1,25 @@
 -- What each command asks for is of its own kind.
-use Rattle.std.proofs.Common.{◌≡◌, ℕ, List, [], ◌∷◌, Bool, true, false, Option, Some, None, refl, sym, ap, subst, ◌∙◌}
+use Rattle.std.proofs.Common.{◌≡◌, ℕ, List, [], ◌∷◌, Bool, true, false, Option, Some, None, refl, sym, ap, subst}
 use Rattle.std.specs.Prelude.{option_map, option_and_then, if◌then◌else◌}
-use Rattle.tf_words.specs.Words.{worker_of, address_of, sessions_in, seats_in, serve_of, id_in, Applied, book_flow_in, post_of, owner_of, list_of, applied_in, priority_in, details_in, hands_in, want_in, deferral_in, stop_in, target_in, try_of, run_of, resume_of, show_of, reset_of, details_of, migrate_of, check_of, audit_of, demo_of, owner_word, conduct_of, asked_by, asked_of, command_of}
+use Rattle.tf_words.specs.Words.{worker_of, address_of, sessions_in, seats_in, serve_of, book_flow_in, post_of, apply_of, owner_of, list_of, priority_in, details_in, hands_in, want_in, deferral_in, stop_in, target_in, try_of, run_of, resume_of, show_of, reset_of, details_of, migrate_of, check_of, audit_of, demo_of, owner_word, conduct_of, asked_by, asked_of, command_of}
 use Rattle.tf_words.specs.Verbs.{Said, are_filled, said_by, choice_of, forms_of, number_between, sets_behind}
 use Rattle.tf_values.specs.Text.{is_name}
+use Rattle.tf_board.specs.Board.{parsed_id}
+use Rattle.tf_board.specs.declared.calls.BoardRequest.{BoardRequest}
+use Rattle.tf_board.specs.declared.calls.BoardRequest.TheVariants as request
+use Rattle.tf_board.specs.declared.calls.JobCall.TheVariants as call
+use Rattle.tf_board.specs.declared.commands.JobAction.{JobAction}
 use Rattle.tf_words.specs.declared.asked.Asked.{Asked}
 use Rattle.tf_words.specs.declared.asked.Asked.TheVariants as asked
 use Rattle.tf_words.specs.declared.verbs.Verb.{Verb}
 use Rattle.tf_words.specs.declared.verbs.Verb.TheVariants as verb
+
+-- the command that asks this of a board
+abbrev verb_of_request : BoardRequest → Verb
+verb_of_request (request.Call (call.Post name urgency details)) = verb.Post
+verb_of_request (request.Call (call.Apply action id owner)) = verb.Apply action
+verb_of_request (request.Owner id) = verb.Owner
+verb_of_request request.List = verb.List
 
 -- the command that asks for it
 abbrev pub verb_of : Asked → Verb
@@ -23,13 +35,7 @@ verb_of (asked.Audit file log sets defer) = verb.Audit
 verb_of (asked.Demo seed size book hands) = verb.Demo
 verb_of (asked.Worker address sessions) = verb.Worker
 verb_of (asked.Conduct board owner hands) = verb.Conduct
-verb_of (asked.Post board name urgency details) = verb.Post
-verb_of (asked.Claim board id owner) = verb.Claim
-verb_of (asked.Abandon board id owner) = verb.Abandon
-verb_of (asked.Consume board id owner) = verb.Consume
-verb_of (asked.Trash board id owner) = verb.Trash
-verb_of (asked.Owner board id) = verb.Owner
-verb_of (asked.List board) = verb.List
+verb_of (asked.Board board request) = verb_of_request request
 verb_of (asked.Serve board address sessions) = verb.Serve
 
 -- what gives something was given something
@@ -135,23 +141,28 @@ post_kind said (board ∷ job ∷ []) a is =
     sym (ap verb_of q.2)
 post_kind said (board ∷ job ∷ more ∷ others) a is = absurd (cc)
 
-applied_kind : (gives : Applied → Asked) (which : Verb) (words : List (List ℕ)) (a : Asked) → ((found : Applied) → verb_of (gives found) ≡ which)
-    → option_map gives (applied_in words) ≡ Some a → verb_of a ≡ which
-applied_kind gives which words a each is =
-    let p = map_some gives (applied_in words) a is in
-    sym (ap verb_of p.2) ∙ each p.0
+apply_kind : (action : JobAction) (words : List (List ℕ)) (a : Asked) → apply_of action words ≡ Some a → verb_of a ≡ verb.Apply action
+apply_kind action [] a is = absurd (cc)
+apply_kind action (board ∷ []) a is = absurd (cc)
+apply_kind action (board ∷ id ∷ []) a is = absurd (cc)
+apply_kind action (board ∷ id ∷ owner ∷ []) a is =
+    let p = then_some _ (parsed_id id) a is in
+    let q = where_some (is_name owner) _ a p.2 in
+    let same : asked.Board board (request.Call (call.Apply action p.0 owner)) ≡ a = cc in
+    sym (ap verb_of same)
+apply_kind action (board ∷ id ∷ owner ∷ more ∷ others) a is = absurd (cc)
 
 owner_kind : (words : List (List ℕ)) (a : Asked) → owner_of words ≡ Some a → verb_of a ≡ verb.Owner
 owner_kind [] a is = absurd (cc)
 owner_kind (board ∷ []) a is = absurd (cc)
 owner_kind (board ∷ id ∷ []) a is =
-    let p = map_some _ (id_in id) a is in
+    let p = map_some _ (parsed_id id) a is in
     sym (ap verb_of p.2)
 owner_kind (board ∷ id ∷ more ∷ others) a is = absurd (cc)
 
 list_kind : (words : List (List ℕ)) (a : Asked) → list_of words ≡ Some a → verb_of a ≡ verb.List
 list_kind [] a is = absurd (cc)
-list_kind (board ∷ []) a is = let same : asked.List board ≡ a = cc in sym (ap verb_of same)
+list_kind (board ∷ []) a is = let same : asked.Board board request.List ≡ a = cc in sym (ap verb_of same)
 list_kind (board ∷ more ∷ others) a is = absurd (cc)
 
 demo_kind : (said : Said) (words : List (List ℕ)) (a : Asked) → demo_of said words ≡ Some a → verb_of a ≡ verb.Demo
@@ -188,10 +199,7 @@ asked_kind verb.Demo said a is = demo_kind said (said []) a is
 asked_kind verb.Worker said a is = worker_kind said (said []) a is
 asked_kind verb.Conduct said a is = conduct_kind said (said []) a is
 asked_kind verb.Post said a is = post_kind said (said []) a is
-asked_kind verb.Claim said a is = applied_kind _ verb.Claim (said []) a (λ found. refl) is
-asked_kind verb.Abandon said a is = applied_kind _ verb.Abandon (said []) a (λ found. refl) is
-asked_kind verb.Consume said a is = applied_kind _ verb.Consume (said []) a (λ found. refl) is
-asked_kind verb.Trash said a is = applied_kind _ verb.Trash (said []) a (λ found. refl) is
+asked_kind (verb.Apply action) said a is = apply_kind action (said []) a is
 asked_kind verb.Owner said a is = owner_kind (said []) a is
 asked_kind verb.List said a is = list_kind (said []) a is
 asked_kind verb.Serve said a is = serve_kind said (said []) a is

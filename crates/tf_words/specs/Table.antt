@@ -26,7 +26,10 @@ positional_rule = record (new_rule []) { action = Some Append }
 abbrev pub with_rules : List Rule → App
 with_rules rules =
     let app = new_app (codes "words") in
-    record app { top = record app.top { no_binary_name = true; disable_help_flag = true; disable_version_flag = true; rules = rules } }
+    record app {
+      top = record app.top
+          { no_binary_name = true; disable_help_flag = true; disable_version_flag = true; rules = rules };
+    }
 
 -- the command that has these options and any number of positional words
 abbrev pub table : List Form → App

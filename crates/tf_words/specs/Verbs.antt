@@ -1,5 +1,6 @@
--- What words stand for: values, numbers, and pairs of the form NAME=VALUE. Which command the first word chooses, and how the others are read as options and positional words.
-use Rattle.std.specs.Prelude.{ℕ, ◌+◌, ◌-◌, ◌*◌, List, [], ◌∷◌, ◌++◌, Bool, not, ◌&&◌, ◌||◌, ◌==◌, nat_lt, nat_le, Option, Some, None, option_map, if◌then◌else◌, ℤ, pos, negsuc, ◌^◌, true, false, codes, length, position, map}
+-- What words stand for: values, numbers, and pairs of the form NAME=VALUE. Which command the first word chooses, and
+-- how the others are read as options and positional words.
+use Rattle.std.specs.Prelude.{ℕ, ◌+◌, ◌-◌, ◌*◌, List, [], ◌∷◌, ◌++◌, Bool, not, ◌&&◌, ◌||◌, ◌==◌, nat_lt, nat_le, Option, Some, None, option_map, unwrap_or, if◌then◌else◌, ℤ, pos, negsuc, ◌^◌, true, false, codes, length, position, map}
 use Rattle.tf_values.specs.Text.{is_between, is_text, is_name}
 use Rattle.tf_words.specs.declared.quotes.Inside.{Inside}
 use Rattle.std.specs.List.{list_all}
@@ -20,6 +21,9 @@ use Rattle.tf_values.specs.declared.value.Val.TheVariants as value
 use Rattle.tf_words.specs.declared.spelled.Mark.TheVariants as mark
 use Rattle.tf_words.specs.declared.spelled.Quoting.TheVariants as quoting
 use Rattle.tf_words.specs.declared.verbs.Verb.TheVariants as verb
+use Rattle.tf_desk.specs.declared.files.Access.{Access}
+use Rattle.tf_desk.specs.declared.files.Access.TheVariants as access
+use Rattle.tf_board.specs.declared.commands.JobAction.TheVariants as action
 
 -- ---- how a text stands in quotes, read from its opening quote on
 
@@ -48,7 +52,9 @@ is_short byte = (byte == 34 || byte == 92) || (byte == 110 || byte == 116)
 
 -- where the reader stands behind the byte, if the byte may stand here
 abbrev pub step : Inside → ℕ → Option Inside
-step at.Bytes byte = if byte == 34 then Some at.Closed else if byte == 92 then Some at.Escape else if is_plain byte then Some at.Bytes else None
+step at.Bytes byte =
+    if byte == 34 then Some at.Closed else if byte == 92 then Some at.Escape else if is_plain byte then Some at.Bytes
+    else None
 step at.Escape byte = if byte == 117 then Some at.Unicode else if is_short byte then Some at.Bytes else None
 step at.Unicode byte = if byte == 48 then Some at.Zero else None
 step at.Zero byte = if byte == 48 then Some at.Zeros else None
@@ -59,7 +65,8 @@ step at.Closed byte = None
 -- the byte of the text that ends with this byte of its form
 abbrev pub emitted : Inside → ℕ → List ℕ
 emitted at.Bytes byte = if byte == 34 || byte == 92 then [] else byte ∷ []
-emitted at.Escape byte = if byte == 117 then [] else if byte == 110 then 10 ∷ [] else if byte == 116 then 9 ∷ [] else byte ∷ []
+emitted at.Escape byte =
+    if byte == 117 then [] else if byte == 110 then 10 ∷ [] else if byte == 116 then 9 ∷ [] else byte ∷ []
 emitted at.Unicode byte = []
 emitted at.Zero byte = []
 emitted at.Zeros byte = []
@@ -74,7 +81,12 @@ closed_at place = None
 -- the text whose form goes on with these bytes, up to a closing quote that ends them
 abbrev pub text_from : Inside → List ℕ → Option (List ℕ)
 text_from place [] = closed_at place
-text_from place (byte ∷ bytes) = elim (step place byte) [ None ↦ None | Some after ↦ option_map (λ text. emitted place byte ++ text) (text_from after bytes) ]
+text_from place (byte ∷ bytes) =
+    elim (step place byte) [
+      | None ↦ None
+      | Some after ↦ option_map (λ text. emitted place byte ++ text)
+          (text_from after bytes)
+    ]
 
 -- the text that stands in quotes
 abbrev pub text_in_quotes : List ℕ → Option (List ℕ)
@@ -99,7 +111,8 @@ is_count (first ∷ digits) = is_between 49 57 first && list_all is_digit digits
 -- an integer of any width: digits without a leading zero, behind a hyphen where it is negative, or zero
 abbrev pub is_integer : List ℕ → Bool
 is_integer [] = false
-is_integer (first ∷ rest) = if first == 45 then is_count rest else same_word (first ∷ rest) (codes "0") || is_count (first ∷ rest)
+is_integer (first ∷ rest) =
+    if first == 45 then is_count rest else same_word (first ∷ rest) (codes "0") || is_count (first ∷ rest)
 
 -- the scalar, its integer of any width, that the bytes spell
 abbrev pub scalar_spelled : List ℕ → Option Scalar
@@ -113,10 +126,12 @@ scalar_spelled bytes =
 -- where the reader of a list stands behind the byte: outside quotes, within them, or within them behind a backslash
 abbrev pub quoting_after : Quoting → ℕ → Quoting
 quoting_after quoting.Outside byte = if byte == 34 then quoting.Inside else quoting.Outside
-quoting_after quoting.Inside byte = if byte == 34 then quoting.Outside else if byte == 92 then quoting.Escaped else quoting.Inside
+quoting_after quoting.Inside byte =
+    if byte == 34 then quoting.Outside else if byte == 92 then quoting.Escaped else quoting.Inside
 quoting_after quoting.Escaped byte = quoting.Inside
 
--- what a byte of a list is: outside quotes a comma and a closing bracket end an item, and all other bytes are the item's
+-- what a byte of a list is: outside quotes a comma and a closing bracket end an item, and all other bytes are the
+-- item's
 abbrev pub mark_of : Quoting → ℕ → Mark
 mark_of quoting.Outside byte = if byte == 44 then mark.Comma else if byte == 93 then mark.Bracket else mark.Own
 mark_of quoting.Inside byte = mark.Own
@@ -132,7 +147,8 @@ abbrev pub at_end : List ℕ → Option (List Scalar)
 at_end [] = Some []
 at_end (byte ∷ bytes) = None
 
--- the scalars of a list whose bytes go on with these, where `part` is what the first of them has before: each ends with a comma, and the last with the bracket that ends the bytes
+-- the scalars of a list whose bytes go on with these, where `part` is what the first of them has before: each ends with
+-- a comma, and the last with the bracket that ends the bytes
 abbrev pub scalars_from : List ℕ → Quoting → List ℕ → Option (List Scalar)
 scalars_from part place [] = None
 scalars_from part place (byte ∷ bytes) = elim (mark_of place byte) [
@@ -148,7 +164,9 @@ scalars_spelled bytes = if same_word bytes (codes "]") then Some [] else scalars
 -- the value that the bytes spell, where an integer may be of any width and a list of any length
 abbrev pub spelled : List ℕ → Option Val
 spelled [] = None
-spelled (first ∷ bytes) = if first == 91 then option_map value.List (scalars_spelled bytes) else option_map value_of (scalar_spelled (first ∷ bytes))
+spelled (first ∷ bytes) =
+    if first == 91 then option_map value.List (scalars_spelled bytes)
+    else option_map value_of (scalar_spelled (first ∷ bytes))
 
 -- an integer of 64 bits
 abbrev pub is_narrow : ℤ → Bool
@@ -174,8 +192,8 @@ is_value (value.List scalars) = are_scalars scalars && list_all is_element scala
 abbrev pub value_within : Val → Option Val
 value_within found = if is_value found then Some found else None
 
--- what a VALUE stands for, which is no empty text: the value whose text form it is; nothing, where it would be one if an
--- integer could be of any width and a list of any length; and otherwise the text itself
+-- what a VALUE stands for, which is no empty text: the value whose text form it is; nothing, where it would be one if
+-- an integer could be of any width and a list of any length; and otherwise the text itself
 abbrev pub value_meant : List ℕ → Option Val
 value_meant [] = None
 value_meant bytes = elim (spelled bytes) [ None ↦ Some (value.Text bytes) | Some found ↦ value_within found ]
@@ -206,11 +224,14 @@ longer byte halves = record halves { name = byte ∷ halves.name }
 -- the bytes before the first `=`, and those behind it
 abbrev pub halves_of : List ℕ → Option Halves
 halves_of [] = None
-halves_of (byte ∷ bytes) = if byte == 61 then Some (record { name = []; value = bytes }) else option_map (longer byte) (halves_of bytes)
+halves_of (byte ∷ bytes) =
+    if byte == 61 then Some (record { name = []; value = bytes }) else option_map (longer byte) (halves_of bytes)
 
 -- the name and the value that the halves are
 abbrev pub bind_in : Halves → Option Bind
-bind_in halves = if is_name halves.name then option_map (λ value. record { symbol = halves.name; value = value }) (value_meant halves.value) else None
+bind_in halves =
+    if is_name halves.name then option_map (λ value. record { symbol = halves.name; value = value })
+    (value_meant halves.value) else None
 
 -- the name and the value that a word of the form NAME=VALUE gives
 abbrev pub bind_of : List ℕ → Option Bind
@@ -287,7 +308,8 @@ behind_hyphens (first ∷ others) = long_of (first ∷ others) (halves_of (first
 abbrev pub sort_of : List ℕ → Sort
 sort_of [] = plain
 sort_of (first ∷ []) = plain
-sort_of (first ∷ second ∷ others) = if first == 45 then (if second == 45 then behind_hyphens others else short) else plain
+sort_of (first ∷ second ∷ others) =
+    if first == 45 then (if second == 45 then behind_hyphens others else short) else plain
 
 -- whether a value belongs to the option of this name, if there is one
 abbrev pub takes_value : List Form → List ℕ → Option Bool
@@ -302,8 +324,10 @@ alone word = record { name = []; value = word }
 abbrev pub piece_before : List ℕ → List ℕ → Option (List Piece) → Option (List Piece)
 piece_before name value = option_map (λ others. record { name = name; value = value } ∷ others)
 
--- a value stands behind `=` or in the next word, and a flag has none; `rest` reads the other words, by the option that waits for a value
-abbrev pub option_met : Option Bool → List ℕ → Option (List ℕ) → (Option (List ℕ) → Option (List Piece)) → Option (List Piece)
+-- a value stands behind `=` or in the next word, and a flag has none; `rest` reads the other words, by the option that
+-- waits for a value
+abbrev pub option_met : Option Bool → List ℕ → Option (List ℕ) → (Option (List ℕ) → Option (List Piece))
+    → Option (List Piece)
 option_met None name value rest = None
 option_met (Some true) name (Some value) rest = piece_before name value (rest None)
 option_met (Some true) name None rest = rest (Some name)
@@ -311,7 +335,8 @@ option_met (Some false) name (Some value) rest = None
 option_met (Some false) name None rest = piece_before name [] (rest None)
 
 -- what a word begins, where no option waits for its value
-abbrev pub word_met : List Form → Sort → List ℕ → List (List ℕ) → (Option (List ℕ) → Option (List Piece)) → Option (List Piece)
+abbrev pub word_met : List Form → Sort → List ℕ → List (List ℕ) → (Option (List ℕ) → Option (List Piece))
+    → Option (List Piece)
 word_met forms ending word words rest = Some (map alone words)
 word_met forms (long name value) word words rest = option_met (takes_value forms name) name value rest
 word_met forms short word words rest = None
@@ -332,7 +357,8 @@ pieces forms (Some name) (word ∷ words) = value_met (sort_of word) name word (
 -- the values that the pieces give to a name, in order
 abbrev pub values_in : List Piece → List ℕ → List (List ℕ)
 values_in [] name = []
-values_in (piece ∷ others) name = if same_word piece.name name then piece.value ∷ values_in others name else values_in others name
+values_in (piece ∷ others) name =
+    if same_word piece.name name then piece.value ∷ values_in others name else values_in others name
 
 -- the values that words give to the name of each option, and to the empty name as positional words
 abbrev pub said_by : List Form → List (List ℕ) → Option (List ℕ → List (List ℕ))
@@ -391,13 +417,19 @@ forms_of verb.Demo = hands ∷ []
 forms_of verb.Worker = sessions ∷ []
 forms_of verb.Conduct = hands ∷ []
 forms_of verb.Post = urgency ∷ details ∷ []
-forms_of verb.Claim = []
-forms_of verb.Abandon = []
-forms_of verb.Consume = []
-forms_of verb.Trash = []
+forms_of (verb.Apply action) = []
 forms_of verb.Owner = []
 forms_of verb.List = []
 forms_of verb.Serve = sessions ∷ []
+
+-- what the files of a command are picked for: to be read alone, to be read and made where they aren't there, or to be
+-- written
+abbrev pub access_for : Verb → Access
+access_for verb.Show = access.Read
+access_for verb.Details = access.Read
+access_for verb.Owner = access.Share
+access_for verb.List = access.Share
+access_for other = access.Own
 
 -- the command of this name
 abbrev pub verb_named : List ℕ → Option Verb
@@ -420,10 +452,10 @@ verb_named word =
 abbrev pub board_verb_named : List ℕ → Option Verb
 board_verb_named word =
     if same_word word (codes "post") then Some verb.Post
-    else if same_word word (codes "claim") then Some verb.Claim
-    else if same_word word (codes "abandon") then Some verb.Abandon
-    else if same_word word (codes "consume") then Some verb.Consume
-    else if same_word word (codes "trash") then Some verb.Trash
+    else if same_word word (codes "claim") then Some (verb.Apply action.Claim)
+    else if same_word word (codes "abandon") then Some (verb.Apply action.Abandon)
+    else if same_word word (codes "consume") then Some (verb.Apply action.Consume)
+    else if same_word word (codes "trash") then Some (verb.Apply action.Trash)
     else if same_word word (codes "owner") then Some verb.Owner
     else if same_word word (codes "list") then Some verb.List
     else if same_word word (codes "serve") then Some verb.Serve
@@ -445,3 +477,7 @@ choice_of [] = None
 choice_of (first ∷ others) =
     if same_word first (codes "board") then board_choice_of others
     else option_map (λ verb. record { verb = verb; others = others }) (verb_named first)
+
+-- what the files are picked for of the command that the words choose
+abbrev pub access_of : List (List ℕ) → Access
+access_of words = unwrap_or (option_map (λ choice. access_for choice.verb) (choice_of words)) access.Own

@@ -7,7 +7,10 @@ use Rattle.tf_values.specs.Text.{is_text, is_name}
 use Rattle.tf_words.specs.Verbs.{number_between, same_word, is_count, value_meant, sets_behind, Said, once, are_filled, said_by, Choice, choice_of, forms_of}
 use Rattle.tf_words.specs.declared.asked.Asked.{Asked}
 use Rattle.tf_words.specs.declared.asked.Asked.TheVariants as asked
-use Rattle.uuid.specs.Text.{parsed}
+use Rattle.tf_board.specs.Board.{parsed_id, priority_named}
+use Rattle.tf_board.specs.declared.calls.BoardRequest.TheVariants as request
+use Rattle.tf_board.specs.declared.calls.JobCall.TheVariants as call
+use Rattle.tf_board.specs.declared.commands.JobAction.{JobAction}
 use Rattle.tf_states.specs.declared.priorities.Priority.{Priority}
 use Rattle.tf_states.specs.declared.priorities.Priority.TheVariants as priority
 use Rattle.tf_values.specs.declared.value.Val.{Val}
@@ -21,7 +24,9 @@ use Rattle.tf_words.specs.declared.verbs.Verb.TheVariants as verb
 
 -- what stands behind a head, if the word begins with it
 abbrev pub behind : List ℕ → List ℕ → Option (List ℕ)
-behind head word = if nat_le (length head) (length word) && same_word (take (length head) word) head then Some (drop (length head) word) else None
+behind head word =
+    if nat_le (length head) (length word) && same_word (take (length head) word) head
+    then Some (drop (length head) word) else None
 
 -- a comma stands in it
 abbrev pub has_comma : List ℕ → Bool
@@ -41,21 +46,30 @@ port_of word = if is_count word then option_map (λ port. address.Tcp port) (num
 
 -- `unix:` and a path, or `tcp:127.0.0.1:` and a port
 abbrev pub address_of : List ℕ → Option Address
-address_of word = elim (behind (codes "unix:") word) [ Some path ↦ path_of path | None ↦ option_and_then port_of (behind (codes "tcp:127.0.0.1:") word) ]
+address_of word =
+    elim (behind (codes "unix:") word) [
+      | Some path ↦ path_of path
+      | None ↦ option_and_then port_of
+          (behind (codes "tcp:127.0.0.1:") word)
+    ]
 
 -- the pieces of a word between its commas, of whose first piece these bytes stand before the word
 abbrev pub pieces_behind : List ℕ → List ℕ → List (List ℕ)
 pieces_behind begun [] = begun ∷ []
-pieces_behind begun (byte ∷ bytes) = if byte == 44 then begun ∷ pieces_behind [] bytes else pieces_behind (begun ++ byte ∷ []) bytes
+pieces_behind begun (byte ∷ bytes) =
+    if byte == 44 then begun ∷ pieces_behind [] bytes else pieces_behind (begun ++ byte ∷ []) bytes
 
 -- the addresses that words spell, where each spells one
 abbrev pub addresses_in : List (List ℕ) → Option (List Address)
 addresses_in [] = Some []
-addresses_in (word ∷ words) = option_and_then (λ first. option_map (λ others. first ∷ others) (addresses_in words)) (address_of word)
+addresses_in (word ∷ words) =
+    option_and_then (λ first. option_map (λ others. first ∷ others) (addresses_in words)) (address_of word)
 
 -- 1 to 64 addresses with a comma between each two
 abbrev pub addresses_of : List ℕ → Option (List Address)
-addresses_of word = option_and_then (λ found. if nat_le (length found) 64 then Some found else None) (addresses_in (pieces_behind [] word))
+addresses_of word =
+    option_and_then (λ found. if nat_le (length found) 64 then Some found else None)
+    (addresses_in (pieces_behind [] word))
 
 -- how many sessions are served, and else one
 abbrev pub sessions_in : Said → Option ℕ
@@ -63,7 +77,8 @@ sessions_in said = once 1 (number_between 1 999999999) (said (codes "sessions"))
 
 -- `worker ADDRESS`
 abbrev pub worker_of : Said → List (List ℕ) → Option Asked
-worker_of said (word ∷ []) = option_and_then (λ n. option_map (λ a. asked.Worker a n) (address_of word)) (sessions_in said)
+worker_of said (word ∷ []) =
+    option_and_then (λ n. option_map (λ a. asked.Worker a n) (address_of word)) (sessions_in said)
 worker_of said _ = None
 
 -- how many sessions of a board are served side by side, and else one
@@ -72,24 +87,11 @@ seats_in said = once 1 (number_between 1 64) (said (codes "sessions"))
 
 -- `board serve BOARD ADDRESS`
 abbrev pub serve_of : Said → List (List ℕ) → Option Asked
-serve_of said (board ∷ word ∷ []) = option_and_then (λ n. option_map (λ a. asked.Serve board a n) (address_of word)) (seats_in said)
+serve_of said (board ∷ word ∷ []) =
+    option_and_then (λ n. option_map (λ a. asked.Serve board a n) (address_of word)) (seats_in said)
 serve_of said _ = None
 
 -- ---- what the commands of a board ask for, by the values that their words give to the names of their options and as positional words
-
--- the id that a word spells, in one of its text forms
-unfoldable pub id_in : List ℕ → Option (List ℕ)
-id_in word = parsed word
-
--- the priority of this name
-abbrev pub priority_named : List ℕ → Option Priority
-priority_named word =
-    if same_word word (codes "VERY_HIGH") then Some priority.VeryHigh
-    else if same_word word (codes "HIGH") then Some priority.High
-    else if same_word word (codes "NORMAL") then Some priority.Normal
-    else if same_word word (codes "LOW") then Some priority.Low
-    else if same_word word (codes "VERY_LOW") then Some priority.VeryLow
-    else None
 
 -- how urgent a job is, and else NORMAL
 abbrev pub priority_in : Said → Option Priority
@@ -103,45 +105,28 @@ details_in said = once value.Nothing value_meant (said (codes "details"))
 abbrev pub post_of : Said → List (List ℕ) → Option Asked
 post_of said (board ∷ name ∷ []) =
     if is_name name
-    then option_and_then (λ p. option_map (λ d. asked.Post board name p d) (details_in said)) (priority_in said)
+    then option_and_then
+    (λ p. option_map (λ d. asked.Board board (request.Call (call.Post name p d))) (details_in said)) (priority_in said)
     else None
 post_of said _ = None
 
--- a board, a job by its id, and an owner
-pub record Applied : Type 0 where
-  pub board : List ℕ
-  pub id : List ℕ
-  pub owner : List ℕ
-
--- `BOARD ID OWNER`, where the id is a text form of one and the owner a name
-abbrev pub applied_in : List (List ℕ) → Option Applied
-applied_in (board ∷ id ∷ owner ∷ []) = option_and_then (λ i. if is_name owner then Some (record { board = board; id = i; owner = owner }) else None) (id_in id)
-applied_in _ = None
-
--- `board claim BOARD ID OWNER`
-abbrev pub claim_of : List (List ℕ) → Option Asked
-claim_of words = option_map (λ found. asked.Claim found.board found.id found.owner) (applied_in words)
-
--- `board abandon BOARD ID OWNER`
-abbrev pub abandon_of : List (List ℕ) → Option Asked
-abandon_of words = option_map (λ found. asked.Abandon found.board found.id found.owner) (applied_in words)
-
--- `board consume BOARD ID OWNER`
-abbrev pub consume_of : List (List ℕ) → Option Asked
-consume_of words = option_map (λ found. asked.Consume found.board found.id found.owner) (applied_in words)
-
--- `board trash BOARD ID OWNER`
-abbrev pub trash_of : List (List ℕ) → Option Asked
-trash_of words = option_map (λ found. asked.Trash found.board found.id found.owner) (applied_in words)
+-- `board claim BOARD ID OWNER`, and likewise what else an owner does with a job: the id is a text form of one, and the
+-- owner a name
+abbrev pub apply_of : JobAction → List (List ℕ) → Option Asked
+apply_of action (board ∷ id ∷ owner ∷ []) =
+    option_and_then
+    (λ i. if is_name owner then Some (asked.Board board (request.Call (call.Apply action i owner))) else None)
+    (parsed_id id)
+apply_of action _ = None
 
 -- `board owner BOARD ID`
 abbrev pub owner_of : List (List ℕ) → Option Asked
-owner_of (board ∷ id ∷ []) = option_map (λ i. asked.Owner board i) (id_in id)
+owner_of (board ∷ id ∷ []) = option_map (λ i. asked.Board board (request.Owner i)) (parsed_id id)
 owner_of _ = None
 
 -- `board list BOARD`
 abbrev pub list_of : List (List ℕ) → Option Asked
-list_of (board ∷ []) = Some (asked.List board)
+list_of (board ∷ []) = Some (asked.Board board request.List)
 list_of _ = None
 
 -- ---- the numbers of a generated flow
@@ -175,7 +160,8 @@ abbrev pub remote_of : List (List ℕ) → List ℕ → Option Want
 remote_of [] list = option_map (λ addresses. want.Remote addresses) (addresses_of list)
 remote_of _ list = None
 
--- the same, where such a list is given; it stands at most once, and where there is none hands of this process are wanted
+-- the same, where such a list is given; it stands at most once, and where there is none hands of this process are
+-- wanted
 abbrev pub want_by : Said → List (List ℕ) → Option Want
 want_by said [] = option_map (λ hands. want.Local hands) (hands_in said)
 want_by said (list ∷ []) = remote_of (said (codes "hands")) list
@@ -303,10 +289,7 @@ asked_by verb.Demo said = demo_of said (said [])
 asked_by verb.Worker said = worker_of said (said [])
 asked_by verb.Conduct said = conduct_of said (said [])
 asked_by verb.Post said = post_of said (said [])
-asked_by verb.Claim said = claim_of (said [])
-asked_by verb.Abandon said = abandon_of (said [])
-asked_by verb.Consume said = consume_of (said [])
-asked_by verb.Trash said = trash_of (said [])
+asked_by (verb.Apply action) said = apply_of action (said [])
 asked_by verb.Owner said = owner_of (said [])
 asked_by verb.List said = list_of (said [])
 asked_by verb.Serve said = serve_of said (said [])
@@ -317,6 +300,7 @@ asked_by verb.Serve said = serve_of said (said [])
 abbrev pub asked_of : Choice → Option Asked
 asked_of found = option_and_then (asked_by found.verb) (said_by (forms_of found.verb) found.others)
 
--- the command that the words are: each is filled, the first chooses the command, and the others are its options and positional words
+-- the command that the words are: each is filled, the first chooses the command, and the others are its options and
+-- positional words
 abbrev pub command_of : List (List ℕ) → Option Asked
 command_of words = if are_filled words then option_and_then asked_of (choice_of words) else None

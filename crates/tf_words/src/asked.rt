@@ -6,11 +6,10 @@ use crate::given::given_by;
 use crate::verbs::{Choice, chosen_in, keys_of};
 use crate::word::{Word, are_filled};
 use std::alloc::Global;
+use tf_board::BoardRequest;
 use tf_flow::Binds;
 use tf_ports::{Address, Want};
-use tf_states::Priority;
-use tf_values::{Memory, Name, Text, Val};
-use uuid::Uuid;
+use tf_values::{Memory, Name, Text};
 
 /// What the words ask for.
 #[derive(Debug, Drop)]
@@ -90,45 +89,11 @@ pub enum Asked {
         owner: Name,
         hands: u8,
     },
-    /// Post a job on a board.
-    Post {
+    /// Ask something of a board: to post a job, that an owner does something with a job, who has a job, or which
+    /// jobs there are.
+    Board {
         board: Text,
-        name: Name,
-        priority: Priority,
-        details: Val,
-    },
-    /// Take a job of a board for an owner.
-    Claim {
-        board: Text,
-        id: Uuid,
-        owner: Name,
-    },
-    /// Give a job of a board back that an owner has.
-    Abandon {
-        board: Text,
-        id: Uuid,
-        owner: Name,
-    },
-    /// Finish a job of a board that an owner has.
-    Consume {
-        board: Text,
-        id: Uuid,
-        owner: Name,
-    },
-    /// Throw a job of a board away that an owner has.
-    Trash {
-        board: Text,
-        id: Uuid,
-        owner: Name,
-    },
-    /// Say who has a job of a board.
-    Owner {
-        board: Text,
-        id: Uuid,
-    },
-    /// Say which jobs a board has.
-    List {
-        board: Text,
+        request: BoardRequest,
     },
     /// Serve a board to those who come to this address, so many sessions side by side.
     Serve {

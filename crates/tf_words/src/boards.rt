@@ -1,17 +1,17 @@
-ghost use Rattle.std.specs.Prelude.{◌≡◌, IfOk, Some, None, option_map, true};
+ghost use Rattle.std.specs.Prelude.{◌≡◌, IfOk, true};
 ghost use Rattle.std.specs.List.{All};
 ghost use Rattle.tf_values.specs.Text.{is_text};
 ghost use Rattle.tf_words.specs.Held.{held_by, texts_in};
-ghost use Rattle.tf_words.specs.Words.{id_in, Applied, priority_named as priority_by_name, priority_in as priority_said, details_in as details_said, applied_in as applied_said, post_of as post_said, claim_of as claim_said, abandon_of as abandon_said, consume_of as consume_said, trash_of as trash_said, owner_of as owner_said, list_of as list_said};
+ghost use Rattle.tf_words.specs.Words.{priority_in as priority_said, details_in as details_said, post_of as post_said, apply_of as apply_said, owner_of as owner_said, list_of as list_said};
 
 use crate::asked::Asked;
 use crate::commands::text_of;
 use crate::given::Given;
 use crate::spelled::value_meant;
 use std::alloc::Global;
+use tf_board::{BoardRequest, JobAction, JobCall, parse_id, priority_named};
 use tf_states::Priority;
-use tf_values::{Memory, Name, Text, Val};
-use uuid::Uuid;
+use tf_values::{Memory, Name, Val};
 
 /// `board post BOARD NAME`
 pub fn post_of(alloc: Global, given: &Given<'_>, words: &[&str]) -> Result<Option<Asked>, Memory>
@@ -31,12 +31,12 @@ pub fn post_of(alloc: Global, given: &Given<'_>, words: &[&str]) -> Result<Optio
         return Ok(None);
     };
     let board = text_of(alloc, board)?;
-    Ok(Some(Asked::Post {
-        board,
+    let request = BoardRequest::Call(JobCall::Post {
         name,
         priority,
         details,
-    }))
+    });
+    Ok(Some(Asked::Board { board, request }))
 }
 
 /// How urgent a job is, or none where that is no priority.
@@ -47,28 +47,6 @@ fn priority_in(given: &Given<'_>) -> Option<Priority>
         None => Some(Priority::Normal),
         Some(value) => priority_named(value.as_bytes()),
     }
-}
-
-/// The priority of this name, in capital letters; none where it is the name of none.
-pub fn priority_named(word: &[u8]) -> Option<Priority>
-    ensures { result ≡ priority_by_name word.now }
-{
-    if word == b"VERY_HIGH".as_slice() {
-        return Some(Priority::VeryHigh);
-    }
-    if word == b"HIGH".as_slice() {
-        return Some(Priority::High);
-    }
-    if word == b"NORMAL".as_slice() {
-        return Some(Priority::Normal);
-    }
-    if word == b"LOW".as_slice() {
-        return Some(Priority::Low);
-    }
-    if word == b"VERY_LOW".as_slice() {
-        return Some(Priority::VeryLow);
-    }
-    None
 }
 
 /// What a job has beside its name, or none where that is no VALUE.
@@ -84,71 +62,23 @@ fn details_in(alloc: Global, given: &Given<'_>) -> Result<Option<Val>, Memory>
     }
 }
 
-/// `board claim BOARD ID OWNER`
-pub fn claim_of(alloc: Global, words: &[&str]) -> Result<Option<Asked>, Memory>
+/// `board claim BOARD ID OWNER`, and likewise what else an owner does with a job.
+pub fn apply_of(alloc: Global, action: JobAction, words: &[&str]) -> Result<Option<Asked>, Memory>
     requires { All (λ word. is_text word.now ≡ true) words.now }
-    ensures { IfOk result (λ asked. asked ≡ claim_said (texts_in words.now)) }
-{
-    match applied_in(alloc, words)? {
-        Some((board, id, owner)) => Ok(Some(Asked::Claim { board, id, owner })),
-        None => Ok(None),
-    }
-}
-
-/// `board abandon BOARD ID OWNER`
-pub fn abandon_of(alloc: Global, words: &[&str]) -> Result<Option<Asked>, Memory>
-    requires { All (λ word. is_text word.now ≡ true) words.now }
-    ensures { IfOk result (λ asked. asked ≡ abandon_said (texts_in words.now)) }
-{
-    match applied_in(alloc, words)? {
-        Some((board, id, owner)) => Ok(Some(Asked::Abandon { board, id, owner })),
-        None => Ok(None),
-    }
-}
-
-/// `board consume BOARD ID OWNER`
-pub fn consume_of(alloc: Global, words: &[&str]) -> Result<Option<Asked>, Memory>
-    requires { All (λ word. is_text word.now ≡ true) words.now }
-    ensures { IfOk result (λ asked. asked ≡ consume_said (texts_in words.now)) }
-{
-    match applied_in(alloc, words)? {
-        Some((board, id, owner)) => Ok(Some(Asked::Consume { board, id, owner })),
-        None => Ok(None),
-    }
-}
-
-/// `board trash BOARD ID OWNER`
-pub fn trash_of(alloc: Global, words: &[&str]) -> Result<Option<Asked>, Memory>
-    requires { All (λ word. is_text word.now ≡ true) words.now }
-    ensures { IfOk result (λ asked. asked ≡ trash_said (texts_in words.now)) }
-{
-    match applied_in(alloc, words)? {
-        Some((board, id, owner)) => Ok(Some(Asked::Trash { board, id, owner })),
-        None => Ok(None),
-    }
-}
-
-/// The board, the job's id and the owner, or none where the words are no such three.
-fn applied_in(alloc: Global, words: &[&str]) -> Result<Option<(Text, Uuid, Name)>, Memory>
-    requires { All (λ word. is_text word.now ≡ true) words.now }
-    ensures { IfOk result (λ found. option_map (λ found. record {
-      board = found.0;
-      id = found.1;
-      owner = found.2;
-    }) found
-        ≡ applied_said (texts_in words.now)) }
+    ensures { IfOk result (λ asked. asked ≡ apply_said action (texts_in words.now)) }
 {
     let [board, id, owner] = words else {
         return Ok(None);
     };
-    let Some(id) = id_of(id) else {
+    let Some(id) = parse_id(id) else {
         return Ok(None);
     };
     let Some(owner) = Name::make(owner.as_bytes()) else {
         return Ok(None);
     };
     let board = text_of(alloc, board)?;
-    Ok(Some((board, id, owner)))
+    let request = BoardRequest::Call(JobCall::Apply { action, id, owner });
+    Ok(Some(Asked::Board { board, request }))
 }
 
 /// `board owner BOARD ID`
@@ -159,11 +89,12 @@ pub fn owner_of(alloc: Global, words: &[&str]) -> Result<Option<Asked>, Memory>
     let [board, id] = words else {
         return Ok(None);
     };
-    let Some(id) = id_of(id) else {
+    let Some(id) = parse_id(id) else {
         return Ok(None);
     };
     let board = text_of(alloc, board)?;
-    Ok(Some(Asked::Owner { board, id }))
+    let request = BoardRequest::Owner { id };
+    Ok(Some(Asked::Board { board, request }))
 }
 
 /// `board list BOARD`
@@ -175,16 +106,6 @@ pub fn list_of(alloc: Global, words: &[&str]) -> Result<Option<Asked>, Memory>
         return Ok(None);
     };
     let board = text_of(alloc, board)?;
-    Ok(Some(Asked::List { board }))
-}
-
-/// The id that the word spells, in one of the text forms that `uuid` knows, or none.
-#[tactic(auto, unfolding(crate::specs::Words::id_in))]
-pub fn id_of(word: &str) -> Option<Uuid>
-    ensures { result ≡ id_in word.now }
-{
-    match Uuid::parse_str(word) {
-        Ok(id) => Some(id),
-        Err(_) => None,
-    }
+    let request = BoardRequest::List;
+    Ok(Some(Asked::Board { board, request }))
 }

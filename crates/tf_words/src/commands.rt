@@ -1,12 +1,12 @@
-ghost use Rattle.std.specs.Prelude.{◌≡◌, ◌≤◌, ℕ, List, [], IfOk, IfSome, Some, option_map, true};
+ghost use Rattle.std.specs.Prelude.{◌≡◌, List, IfOk, Some, option_map, true};
 ghost use Rattle.std.specs.List.{All};
 ghost use Rattle.tf_values.specs.Text.{is_text};
 ghost use Rattle.tf_words.specs.Held.{held_by, texts_in};
-ghost use Rattle.tf_words.specs.Words.{asked_by as asked_in, deferral_in as deferral_said, hands_in as hands_said, want_in as want_said, stop_in as stop_said, target_in as target_said, try_of as try_said, run_of as run_said, book_flow_in as book_flow_said, resume_of as resume_said, show_of as show_said, reset_of as reset_said, details_of as details_said, migrate_of as migrate_said, check_of as check_said, audit_of as audit_said, demo_of as demo_said, owner_word as owner_said, conduct_of as conduct_said};
+ghost use Rattle.tf_words.specs.Words.{asked_by as asked_in, deferral_in as deferral_said, stop_in as stop_said, target_in as target_said, try_of as try_said, run_of as run_said, book_flow_in as book_flow_said, resume_of as resume_said, show_of as show_said, reset_of as reset_said, details_of as details_said, migrate_of as migrate_said, check_of as check_said, audit_of as audit_said, demo_of as demo_said, owner_word as owner_said, conduct_of as conduct_said};
 
 use crate::addresses::{serve_of, worker_of};
 use crate::asked::Asked;
-use crate::boards::{abandon_of, claim_of, consume_of, list_of, owner_of, post_of, trash_of};
+use crate::boards::{apply_of, list_of, owner_of, post_of};
 use crate::given::Given;
 use crate::numbers::number_between;
 use crate::pairs::sets_of;
@@ -40,10 +40,7 @@ pub fn asked_by(alloc: Global, verb: Verb, given: &Given<'_>) -> Result<Option<A
         Verb::Worker => worker_of(alloc, given, words),
         Verb::Conduct => conduct_of(alloc, given, words),
         Verb::Post => post_of(alloc, given, words),
-        Verb::Claim => claim_of(alloc, words),
-        Verb::Abandon => abandon_of(alloc, words),
-        Verb::Consume => consume_of(alloc, words),
-        Verb::Trash => trash_of(alloc, words),
+        Verb::Apply(action) => apply_of(alloc, action, words),
         Verb::Owner => owner_of(alloc, words),
         Verb::List => list_of(alloc, words),
         Verb::Serve => serve_of(alloc, given, words),

@@ -17,7 +17,7 @@ mod wants;
 mod word;
 
 pub use asked::{Asked, read_words};
-pub use boards::{id_of, priority_named};
 pub use commands::OWNER_LIMIT;
 pub use laws::{conductors_are_within, demo_numbers_are_within};
+pub use verbs::access_of;
 pub use word::Word;

@@ -1,7 +1,9 @@
 ghost use Rattle.std.specs.Prelude.{◌≡◌, [], Some, None, true, IfSome, map, option_map};
-ghost use Rattle.tf_words.specs.Verbs.{are_filled, takes_value, form_of, forms_of, verb_named as verb_by_name, board_verb_named as board_verb_by_name, choice_of as chosen_by, board_choice_of as chosen_behind_board};
+ghost use Rattle.tf_words.specs.Verbs.{are_filled, takes_value, form_of, forms_of, verb_named as verb_by_name, board_verb_named as board_verb_by_name, choice_of as chosen_by, board_choice_of as chosen_behind_board, access_of as access_by_words, access_for as access_by_verb};
 
 use crate::word::Word;
+use tf_board::JobAction;
+use tf_desk::Access;
 
 /// What a command does with the words behind those that choose it.
 #[derive(Clone, Copy, Debug)]
@@ -19,10 +21,7 @@ pub enum Verb {
     Worker,
     Conduct,
     Post,
-    Claim,
-    Abandon,
-    Consume,
-    Trash,
+    Apply(JobAction),
     Owner,
     List,
     Serve,
@@ -120,8 +119,28 @@ pub fn keys_of(verb: Verb) -> &'static [Key]
         Verb::Post => &POST,
         Verb::Show | Verb::Reset => &NONE,
         Verb::Details | Verb::Migrate => &NONE,
-        Verb::Claim | Verb::Abandon | Verb::Consume | Verb::Trash => &NONE,
-        Verb::Owner | Verb::List => &NONE,
+        Verb::Apply(_) | Verb::Owner | Verb::List => &NONE,
+    }
+}
+
+/// What the files of the command that the words choose are picked for; to be written where they choose none.
+pub fn access_of(words: &[Word]) -> Access
+    ensures { result ≡ access_by_words words.now }
+{
+    match chosen_in(words) {
+        Some(choice) => access_for(choice.verb),
+        None => Access::Own,
+    }
+}
+
+/// What the files of the command are picked for.
+fn access_for(verb: Verb) -> Access
+    ensures { result ≡ access_by_verb verb }
+{
+    match verb {
+        Verb::Show | Verb::Details => Access::Read,
+        Verb::Owner | Verb::List => Access::Share,
+        _ => Access::Own,
     }
 }
 
@@ -158,16 +177,16 @@ fn board_verb_named(word: &[u8]) -> Option<Verb>
         return Some(Verb::Post);
     }
     if word == b"claim".as_slice() {
-        return Some(Verb::Claim);
+        return Some(Verb::Apply(JobAction::Claim));
     }
     if word == b"abandon".as_slice() {
-        return Some(Verb::Abandon);
+        return Some(Verb::Apply(JobAction::Abandon));
     }
     if word == b"consume".as_slice() {
-        return Some(Verb::Consume);
+        return Some(Verb::Apply(JobAction::Consume));
     }
     if word == b"trash".as_slice() {
-        return Some(Verb::Trash);
+        return Some(Verb::Apply(JobAction::Trash));
     }
     if word == b"owner".as_slice() {
         return Some(Verb::Owner);

@@ -22,7 +22,9 @@ IsKnown kept (Some at) = BeginsWithBadLength kept.rest × (at ≡ kept.place)
 
 -- a piece of the stream was fed
 abbrev pub Feeds : KeptFrames → KeptFrames → List ℕ → Option ℕ → Type 0
-Feeds old new piece refused = (stream : List ℕ) (taken : List (List ℕ)) → KeepsStream old stream taken → KeepsStream new (stream ++ piece) taken × IsKnown new refused
+Feeds old new piece refused =
+    (stream : List ℕ) (taken : List (List ℕ)) → KeepsStream old stream taken → KeepsStream new (stream ++ piece) taken
+    × IsKnown new refused
 
 -- a piece of the stream came, and was fed
 pub record TakesIn (old new : KeptFrames) (refused : Option ℕ) (left rest : Option (List ℕ)) : Type 0 where
@@ -44,13 +46,18 @@ pub record RunsOut (left rest : Option (List ℕ)) : Type 0 where
 -- why nothing was taken in: the link is at its end, between two frames or inside one; the link failed; the stream
 -- is refused; or memory ran out
 abbrev pub HasNothingMore : Incoming → Option (List ℕ) → Option (List ℕ) → ℕ → ℕ → ℕ → ℕ → ServeEnd → Type 0
-HasNothingMore incoming left rest faults now_faults ends now_ends end.Ended = IsAtEnd left rest ends now_ends × (incoming.refused ≡ None) × (incoming.frames.rest ≡ [])
-HasNothingMore incoming left rest faults now_faults ends now_ends end.Lost = ((rest ≡ left) × Rises faults now_faults) ⊎ (IsAtEnd left rest ends now_ends × (incoming.refused ≡ None) × (incoming.frames.rest ≢ []))
-HasNothingMore incoming left rest faults now_faults ends now_ends (end.Bad at) = (rest ≡ left) × (incoming.refused ≡ Some at)
+HasNothingMore incoming left rest faults now_faults ends now_ends end.Ended =
+    IsAtEnd left rest ends now_ends × (incoming.refused ≡ None) × (incoming.frames.rest ≡ [])
+HasNothingMore incoming left rest faults now_faults ends now_ends end.Lost =
+    ((rest ≡ left) × Rises faults now_faults)
+    ⊎ (IsAtEnd left rest ends now_ends × (incoming.refused ≡ None) × (incoming.frames.rest ≢ []))
+HasNothingMore incoming left rest faults now_faults ends now_ends (end.Bad at) =
+    (rest ≡ left) × (incoming.refused ≡ Some at)
 HasNothingMore incoming left rest faults now_faults ends now_ends end.Memory = RunsOut left rest
 
 -- the link gave these bytes, and each of these frames was answered, as an exchange
-pub record SoFar (gives : Order → Outcome → Type 0) (before now : Seen) (given : List ℕ) (frames : List (List ℕ)) (exchanges : List Exchange) : Type 0 where
+pub record SoFar (gives : Order → Outcome → Type 0) (before now : Seen) (given : List ℕ) (frames : List (List ℕ))
+    (exchanges : List Exchange) : Type 0 where
   pub came : before.left ≡ left_before given now.left
   pub read : AreRead frames exchanges
   pub gave : AllByRecursion (MayBeGiven gives) exchanges
@@ -60,7 +67,8 @@ pub record SoFar (gives : Order → Outcome → Type 0) (before now : Seen) (giv
   pub ends : before.ends ≤ now.ends
 
 -- every frame that was taken was answered, and the next one stands at this place
-pub record HasAnsweredAll (gives : Order → Outcome → Type 0) (before now : Seen) (kept : KeptFrames) (place : ℕ) (refused : Option ℕ) : Type 0 where
+pub record HasAnsweredAll (gives : Order → Outcome → Type 0) (before now : Seen) (kept : KeptFrames) (place : ℕ)
+    (refused : Option ℕ) : Type 0 where
   pub given : List ℕ
   pub taken : List (List ℕ)
   pub exchanges : List Exchange
@@ -87,8 +95,12 @@ pub record Answers (gives : Order → Outcome → Type 0) (frame : List ℕ) (be
 -- how far the answer to a frame came: nothing was said; it was begun; or the order was performed
 pub data HasComeTo (gives : Order → Outcome → Type 0) (frame : List ℕ) (before now : Seen) : Type 0 where
   nothing : now.did ≡ before.did → now.sent ≡ before.sent → HasComeTo gives frame before now
-  begun : (request : Request) → AreRequest frame request → now.did ≡ before.did → SendsPrefix before.sent (running request) now.sent → HasComeTo gives frame before now
-  performed : (exchange : Exchange) → AreRequest frame exchange.request → MayBeGiven gives exchange → now.did ≡ did_with before.did (order_asked exchange ∷ []) → (sent : SendsPrefix before.sent (reply exchange) now.sent) → length (running exchange.request) ≤ sent.count → HasComeTo gives frame before now
+  begun : (request : Request) → AreRequest frame request → now.did ≡ before.did
+      → SendsPrefix before.sent (running request) now.sent → HasComeTo gives frame before now
+  performed : (exchange : Exchange) → AreRequest frame exchange.request → MayBeGiven gives exchange
+      → now.did ≡ did_with before.did (order_asked exchange ∷ [])
+      → (sent : SendsPrefix before.sent (reply exchange) now.sent) → length (running exchange.request) ≤ sent.count
+      → HasComeTo gives frame before now
 
 -- a frame that spells no request
 pub record IsNoRequest (frame : List ℕ) (before now : Seen) : Type 0 where
@@ -99,5 +111,6 @@ pub record IsNoRequest (frame : List ℕ) (before now : Seen) : Type 0 where
 -- why a frame wasn't answered: it spells no request, the link failed, or memory ran out
 abbrev pub StopsFor : (Order → Outcome → Type 0) → List ℕ → Seen → Seen → Stop → Type 0
 StopsFor gives frame before now stop.Bad = TakesNothing before now × IsNoRequest frame before now
-StopsFor gives frame before now stop.Lost = TakesNothing before now × HasComeTo gives frame before now × Rises before.faults now.faults
+StopsFor gives frame before now stop.Lost =
+    TakesNothing before now × HasComeTo gives frame before now × Rises before.faults now.faults
 StopsFor gives frame before now stop.Memory = TakesNothing before now × HasComeTo gives frame before now

@@ -1,4 +1,5 @@
--- What a worker answers: one exchange for each request. A session: what a link gave, what was read and answered of it, and how it ended.
+-- What a worker answers: one exchange for each request. A session: what a link gave, what was read and answered of it,
+-- and how it ended.
 use Rattle.std.specs.Prelude.{ℕ, List, [], ◌∷◌, ◌++◌, ◌≡◌, ◌≢◌, ◌≤◌, map, length, Option, Some, None, option_map, ◌⊎◌}
 use Rattle.std.specs.List.{flat_map, AllByRecursion}
 use Rattle.tf_actions.specs.declared.orders.Order.{Order}
@@ -59,8 +60,10 @@ pub record Seen : Type 0 where
   pub ends : ℕ
   pub did : Option (List Order)
 
-abbrev pub seen : {L P : Type 0} → (L → Option (List ℕ)) → (L → Option (List ℕ)) → (L → ℕ) → (L → ℕ) → (P → Option (List Order)) → L → P → Seen
-seen left sent faults ends did link hand = record { left = left link; sent = sent link; faults = faults link; ends = ends link; did = did hand }
+abbrev pub seen : {L P : Type 0} → (L → Option (List ℕ)) → (L → Option (List ℕ)) → (L → ℕ) → (L → ℕ)
+    → (P → Option (List Order)) → L → P → Seen
+seen left sent faults ends did link hand =
+    record { left = left link; sent = sent link; faults = faults link; ends = ends link; did = did hand }
 
 -- more orders at the end; None, which tells nothing, stays None
 abbrev pub did_with : Option (List Order) → List Order → Option (List Order)
@@ -103,9 +106,10 @@ abbrev pub begun_reply : Option Request → List ℕ
 begun_reply None = []
 begun_reply (Some request) = running request
 
--- The link gave some bytes. Of the frames at their front some were read as requests, and the hand was asked for
--- the orders that these name, each once and in order. At most one request behind them was read besides, to
--- which no outcome came. The link was sent a prefix of the dialogue: whole up to where it says that the last order of which the hand was asked runs.
+-- The link gave some bytes. Of the frames at their front some were read as requests, and the hand was asked for the
+-- orders that these name, each once and in order. At most one request behind them was read besides, to which no outcome
+-- came. The link was sent a prefix of the dialogue: whole up to where it says that the last order of which the hand was
+-- asked runs.
 pub record WorkerSession (gives : Order → Outcome → Type 0) (before now : Seen) : Type 0 where
   pub given : List ℕ
   pub came : before.left ≡ left_before given now.left
@@ -122,7 +126,8 @@ pub record WorkerSession (gives : Order → Outcome → Type 0) (before now : Se
   pub said_running : length (up_to_running exchanges) ≤ sent.count
 
 -- no request was begun without an outcome, and the whole dialogue was sent
-pub record IsFullyAnswered {gives : Order → Outcome → Type 0} {before now : Seen} (session : WorkerSession gives before now) : Type 0 where
+pub record IsFullyAnswered {gives : Order → Outcome → Type 0} {before now : Seen}
+    (session : WorkerSession gives before now) : Type 0 where
   pub none_begun : session.begun ≡ None
   pub sent : now.sent ≡ sent_with before.sent (dialogue session.exchanges)
 
@@ -140,10 +145,15 @@ pub record IsLinkOver (before now : Seen) : Type 0 where
 -- How a session ends. Ended: the link ended between two frames. Lost: the link failed, or it ended inside a
 -- frame. Bad: at this place stands a frame that spells no request, or a length that no frame has. Of Memory
 -- nothing is said.
-abbrev pub SessionEndsAs : {gives : Order → Outcome → Type 0} {before now : Seen} → ServeEnd → WorkerSession gives before now → Type 0
-SessionEndsAs {gives} {before} {now} end.Ended session = IsFullyAnswered session × (session.behind ≡ []) × IsLinkOver before now
-SessionEndsAs {gives} {before} {now} end.Lost session = Rises before.faults now.faults ⊎ (IsFullyAnswered session × IsCutShort session.behind × IsLinkOver before now)
-SessionEndsAs {gives} {before} {now} (end.Bad at) session = IsFullyAnswered session × (at ≡ counted (length (joined session.frames))) × (BeginsWithNoRequest session.behind ⊎ BeginsWithBadLength session.behind)
+abbrev pub SessionEndsAs : {gives : Order → Outcome → Type 0} {before now : Seen} → ServeEnd
+    → WorkerSession gives before now → Type 0
+SessionEndsAs {gives} {before} {now} end.Ended session =
+    IsFullyAnswered session × (session.behind ≡ []) × IsLinkOver before now
+SessionEndsAs {gives} {before} {now} end.Lost session =
+    Rises before.faults now.faults ⊎ (IsFullyAnswered session × IsCutShort session.behind × IsLinkOver before now)
+SessionEndsAs {gives} {before} {now} (end.Bad at) session =
+    IsFullyAnswered session × (at ≡ counted (length (joined session.frames)))
+    × (BeginsWithNoRequest session.behind ⊎ BeginsWithBadLength session.behind)
 SessionEndsAs {gives} {before} {now} end.Memory session = Unit {0}
 
 -- what serving a link promises; no count falls

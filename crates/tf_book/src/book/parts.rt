@@ -6,8 +6,8 @@ ghost use Rattle.tf_machine.specs.Machine.{StandsFor};
 ghost use Rattle.tf_book.specs.Book.{bodies_with, size_of};
 
 use super::Book;
+use crate::buffers::Buffers;
 use crate::faults::Halt;
-use crate::room::Room;
 use tf_desk::Desk;
 use tf_machine::Machine;
 
@@ -35,8 +35,8 @@ impl<K: Desk> Book<K> {
         &self.machine
     }
 
-    /// The room of the book, whose run is over, for another one.
-    pub fn into_room(self) -> Room {
+    /// The buffers of the book, whose run is over, for another one.
+    pub fn into_buffers(self) -> Buffers {
         let Book {
             alloc: _,
             journal: _,
@@ -49,7 +49,7 @@ impl<K: Desk> Book<K> {
             failed: _,
             limit: _,
         } = self;
-        Room::of(history)
+        Buffers::of(history)
     }
 
     /// The desk back. Where the book wasn't halted and the desk tells its content, the file has what the book says, and a

@@ -144,7 +144,7 @@ impl<K: Desk> Shelf<K> {
             number: _,
             kept: mut history,
         } = read;
-        // What was read is of another detail. Its room is taken over.
+        // What was read is of another detail. Its buffers are taken over.
         history.clear();
         let mut holding = Holding { number, marks };
         match add(alloc, place, &body) {

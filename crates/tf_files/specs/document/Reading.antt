@@ -1,4 +1,5 @@
--- How a document is read: what a part of it spells, or the first reason why it spells nothing; and the names and values that stand in it.
+-- How a document is read: what a part of it spells, or the first reason why it spells nothing; and the names and values
+-- that stand in it.
 use Rattle.std.specs.Prelude.{ℕ, List, [], ◌∷◌, ◌++◌, if◌then◌else◌, ◌≡◌, suc, Bool, true, false, is_some, Option, Some, None, Result, Ok, Err, option_map, option_and_then}
 use Rattle.tf_values.specs.Text.{is_name, is_text as is_valid_text}
 use Rattle.tf_values.specs.Value.{quoted}
@@ -70,16 +71,19 @@ required_at path reads None = Err (fault.MissingKey path)
 required_at path reads (Some found) = reads path found
 
 -- the value at a key of the table under the path, which must be there
-abbrev pub required : {A : Type 0} → List ℕ → List ℕ → Members → (List ℕ → Data → Result A FileFault) → Result A FileFault
+abbrev pub required : {A : Type 0} → List ℕ → List ℕ → Members → (List ℕ → Data → Result A FileFault)
+    → Result A FileFault
 required path key members reads = required_at (below path key) reads (get_member key members)
 
 -- the value at a path, or another where it isn't there
-abbrev pub optional_at : {A : Type 0} → List ℕ → A → (List ℕ → Data → Result A FileFault) → Option Data → Result A FileFault
+abbrev pub optional_at : {A : Type 0} → List ℕ → A → (List ℕ → Data → Result A FileFault) → Option Data
+    → Result A FileFault
 optional_at path other reads None = Ok other
 optional_at path other reads (Some found) = reads path found
 
 -- the value at a key of the table under the path, or another where it isn't there
-abbrev pub optional : {A : Type 0} → List ℕ → List ℕ → Members → A → (List ℕ → Data → Result A FileFault) → Result A FileFault
+abbrev pub optional : {A : Type 0} → List ℕ → List ℕ → Members → A → (List ℕ → Data → Result A FileFault)
+    → Result A FileFault
 optional path key members other reads = optional_at (below path key) other reads (get_member key members)
 
 -- the value under the path is of the kind that is wanted
@@ -94,7 +98,8 @@ put_first first others = chain first (λ x. chain others (λ xs. Ok (x ∷ xs)))
 -- each item of an array under the path, from that number on, in order
 abbrev pub each : {A : Type 0} → (List ℕ → Data → Result A FileFault) → List ℕ → ℕ → Items → Result (List A) FileFault
 each reads path number no_items = Ok []
-each reads path number (item found others) = put_first (reads (below path (decimal number)) found) (each reads path (suc number) others)
+each reads path number (item found others) =
+    put_first (reads (below path (decimal number)) found) (each reads path (suc number) others)
 
 -- the array under the path, item by item
 abbrev pub array_of : {A : Type 0} → (List ℕ → Data → Result A FileFault) → List ℕ → Data → Result (List A) FileFault
@@ -179,7 +184,9 @@ value_form path found = a_value path (value_at found)
 
 -- a symbol with its value
 abbrev pub bind_form : List ℕ → List ℕ → Data → Result Bind FileFault
-bind_form path key found = chain (key_form path key) (λ symbol. chain (value_form (below path symbol) found) (λ v. Ok (record { symbol = symbol; value = v })))
+bind_form path key found =
+    chain (key_form path key)
+    (λ symbol. chain (value_form (below path symbol) found) (λ v. Ok (record { symbol = symbol; value = v })))
 
 -- the symbols of a table with their values, in byte order
 abbrev pub binds_of : List ℕ → Members → Result (List Bind) FileFault

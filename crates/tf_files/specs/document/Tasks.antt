@@ -27,7 +27,9 @@ use Rattle.tf_flow.specs.declared.atoms.RetryKind.TheVariants as retry_kind
 
 -- an argument's name with the symbol that it is bound to
 abbrev pub rebound_form : List ℕ → List ℕ → Data → Result Arg FileFault
-rebound_form path key found = chain (key_form path key) (λ name. chain (name_form (below path name) found) (λ symbol. Ok (record { name = name; symbol = symbol })))
+rebound_form path key found =
+    chain (key_form path key)
+    (λ name. chain (name_form (below path name) found) (λ symbol. Ok (record { name = name; symbol = symbol })))
 
 -- the names of a table with their symbols, in byte order
 abbrev pub rebounds_of : List ℕ → Members → Result (List Arg) FileFault
@@ -94,7 +96,9 @@ signature_form path members =
 
 -- the keys of a task
 abbrev pub task_keys : List (List ℕ)
-task_keys = codes "task" ∷ codes "kind" ∷ codes "requires" ∷ codes "rebind" ∷ codes "inject" ∷ codes "provides" ∷ codes "priority" ∷ codes "run" ∷ codes "revert" ∷ []
+task_keys =
+    codes "task" ∷ codes "kind" ∷ codes "requires" ∷ codes "rebind" ∷ codes "inject" ∷ codes "provides"
+    ∷ codes "priority" ∷ codes "run" ∷ codes "revert" ∷ []
 
 -- the kind of task that a word is
 abbrev pub kind_named : List ℕ → List ℕ → Result TaskKind FileFault
@@ -176,9 +180,12 @@ signature_keys = codes "requires" ∷ codes "rebind" ∷ codes "inject" ∷ code
 -- `values`, and those that revert always have no `revert_all`
 abbrev pub retry_keys : Members → List (List ℕ)
 retry_keys members =
-    if has_kind (codes "times") members then codes "name" ∷ codes "kind" ∷ codes "attempts" ∷ codes "revert_all" ∷ signature_keys
-    else if has_kind (codes "for_each") members then codes "name" ∷ codes "kind" ∷ codes "values" ∷ codes "revert_all" ∷ signature_keys
-    else if has_kind (codes "always_revert") members || has_kind (codes "always_revert_all") members then codes "name" ∷ codes "kind" ∷ signature_keys
+    if has_kind (codes "times") members then codes "name" ∷ codes "kind" ∷ codes "attempts" ∷ codes "revert_all"
+    ∷ signature_keys
+    else if has_kind (codes "for_each") members then codes "name" ∷ codes "kind" ∷ codes "values" ∷ codes "revert_all"
+    ∷ signature_keys
+    else if has_kind (codes "always_revert") members || has_kind (codes "always_revert_all") members then codes "name"
+    ∷ codes "kind" ∷ signature_keys
     else codes "name" ∷ codes "kind" ∷ codes "revert_all" ∷ signature_keys
 
 -- ---- kinds

@@ -44,7 +44,8 @@ impl<'a> Field<'a> {
     /// The string that the value is, or `WrongKind`.
     pub fn word(&self, alloc: Global) -> Result<&'a str, FileFault>
         ensures ok { IfOk result (λ word. as_str (view self.now.value.now) ≡ Some word.now) }
-        ensures refused { IfErr result (RefusesWith (of_kind (place_of self.now) (as_str (view self.now.value.now)) Ok)) }
+        ensures refused { IfErr result (RefusesWith
+            (of_kind (place_of self.now) (as_str (view self.now.value.now)) Ok)) }
     {
         match self.value.as_str() {
             Some(word) => Ok(word),
@@ -55,7 +56,8 @@ impl<'a> Field<'a> {
     /// The items of the array that the value is, or `WrongKind`.
     pub fn items(&self, alloc: Global) -> Result<&'a [Value], FileFault>
         ensures ok { IfOk result (λ items. as_array (view self.now.value.now) ≡ Some (items_view items.now)) }
-        ensures refused { IfErr result (RefusesWith (of_kind (place_of self.now) (as_array (view self.now.value.now)) Ok)) }
+        ensures refused { IfErr result (RefusesWith
+            (of_kind (place_of self.now) (as_array (view self.now.value.now)) Ok)) }
     {
         match self.value.as_array() {
             Some(items) => Ok(items),
@@ -66,7 +68,8 @@ impl<'a> Field<'a> {
     /// The table that the value is, or `WrongKind`.
     pub fn table(&self, alloc: Global) -> Result<&'a Table, FileFault>
         ensures ok { IfOk result (λ table. as_table (view self.now.value.now) ≡ Some (table_view table.now)) }
-        ensures refused { IfErr result (RefusesWith (of_kind (place_of self.now) (as_table (view self.now.value.now)) Ok)) }
+        ensures refused { IfErr result (RefusesWith
+            (of_kind (place_of self.now) (as_table (view self.now.value.now)) Ok)) }
     {
         match self.value.as_table() {
             Some(table) => Ok(table),

@@ -137,7 +137,8 @@ fn kind_named(
     word: &str,
 ) -> Result<RetryKind, FileFault>
     ensures ok { IfOk result (λ kind. kind_of path.now (table_view table.now) (place_of field.now) word.now ≡ Ok kind) }
-    ensures refused { IfErr result (RefusesWith (kind_of path.now (table_view table.now) (place_of field.now) word.now)) }
+    ensures refused { IfErr result (RefusesWith
+        (kind_of path.now (table_view table.now) (place_of field.now) word.now)) }
 {
     match word {
         "always_revert" => Ok(RetryKind::AlwaysRevert),
@@ -211,7 +212,8 @@ fn revert_all_at(alloc: Global, path: &Path, table: &Table) -> Result<bool, File
 /// A number of attempts: `WrongKind` where the value is no integer, `BadNumber` where it is negative or
 /// needs more than 16 bits.
 fn attempts_form(alloc: Global, field: &Field<'_>) -> Result<u16, FileFault>
-    ensures ok { IfOk result (λ attempts. attempts_spelled (place_of field.now) (view field.now.value.now) ≡ Ok attempts) }
+    ensures ok { IfOk result (λ attempts. attempts_spelled (place_of field.now) (view field.now.value.now)
+        ≡ Ok attempts) }
     ensures refused { IfErr result (RefusesWith (attempts_spelled (place_of field.now) (view field.now.value.now))) }
 {
     match field.value.as_integer() {

@@ -93,7 +93,8 @@ fn provides_at(alloc: Global, path: &Path, table: &Table) -> Result<Provides, Fi
 /// What an atom provides: `WrongKind` where the value is neither a string nor an array, `BadName`
 /// where a string is no name.
 fn provides_form(alloc: Global, field: &Field<'_>) -> Result<Provides, FileFault>
-    ensures ok { IfOk result (λ provides. provides_spelled (place_of field.now) (view field.now.value.now) ≡ Ok provides) }
+    ensures ok { IfOk result (λ provides. provides_spelled (place_of field.now) (view field.now.value.now)
+        ≡ Ok provides) }
     ensures refused { IfErr result (RefusesWith (provides_spelled (place_of field.now) (view field.now.value.now))) }
 {
     match field.value {

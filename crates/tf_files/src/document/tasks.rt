@@ -129,7 +129,8 @@ fn kind_named(alloc: Global, field: &Field<'_>, word: &str) -> Result<TaskKind, 
 
 /// A priority: `WrongKind` where the value is no integer, `BadNumber` where it needs more than 32 bits.
 fn priority_form(alloc: Global, field: &Field<'_>) -> Result<i32, FileFault>
-    ensures ok { IfOk result (λ priority. priority_spelled (place_of field.now) (view field.now.value.now) ≡ Ok priority) }
+    ensures ok { IfOk result (λ priority. priority_spelled (place_of field.now) (view field.now.value.now)
+        ≡ Ok priority) }
     ensures refused { IfErr result (RefusesWith (priority_spelled (place_of field.now) (view field.now.value.now))) }
 {
     match field.value.as_integer() {

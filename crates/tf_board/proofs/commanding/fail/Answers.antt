@@ -5,5 +5,5 @@ use Rattle.tf_board.proofs.commanding.fail.Goals as goal
 pub returns-clause-ends : goal.returns-clause-ends
 returns-clause-ends g c = λ name past pending after entry r.
     let D = g.K.Desk in
-    subst (λ (n : ℕ). Ends name past pending after (D.state entry) (D.state c.say_text.result.0) (fault_text c.args.fault) n c.say_text.result.1) c.status_of-status.ensures
-    (c.say_text.ensures.reached (fault_text c.args.fault) c.fault_line-text.ensures.line name past pending after entry r)
+    subst (λ (n : ℕ). Ends name past pending after (D.state entry) (D.state c.end_with_text.result.0) (fault_text c.args.fault) n c.end_with_text.result.1) c.status_of-status.ensures
+    (c.end_with_text.ensures.reached (fault_text c.args.fault) c.fault_line-text.ensures.line name past pending after entry r)

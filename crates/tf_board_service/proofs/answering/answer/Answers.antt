@@ -3,8 +3,8 @@ use Rattle.std.specs.Prelude.{IfOk, is_some}
 use Rattle.tf_board.specs.Board.{BoardValue, listed, owner_of}
 use Rattle.tf_board_service.specs.Sessions.{Answers, call_made, first_lines, owner_reply}
 use Rattle.tf_board_service.specs.declared.replies.BoardReply.TheVariants as reply
-use Rattle.tf_board_service.specs.declared.requests.BoardRequest.{BoardRequest}
-use Rattle.tf_board_service.specs.declared.requests.BoardRequest.TheVariants as request
+use Rattle.tf_board.specs.declared.calls.BoardRequest.{BoardRequest}
+use Rattle.tf_board.specs.declared.calls.BoardRequest.TheVariants as request
 use Rattle.tf_board_service.proofs.AnswerLemmas.{answers_called, answers_told, none_of, stops_halted}
 use Rattle.tf_board_service.proofs.answering.answer.Goals as goal
 

@@ -1,7 +1,7 @@
 use Rattle.std.proofs.Common.{ℕ, [], refl, ap, subst, ◌∙◌, map, arith}
 use Rattle.tf_desk.proofs.CountLemmas.{rises_later}
 use Rattle.tf_ports.specs.Ports.{DoorTold, seen_link}
-use Rattle.tf_board.proofs.EndLemmas.{concludes_none, concludes_said}
+use Rattle.tf_board.proofs.EndLemmas.{concludes_none}
 use Rattle.tf_board_service.specs.Sessions.{GivesInVain, ServesBoard, exhausted, gave_links, opened_in_vain, unlistened}
 use Rattle.tf_board_service.proofs.CommandLemmas.{said_apart, vain_causes, vain_ends, vain_stops}
 use Rattle.tf_board_service.proofs.DoorLemmas.{vain_all, vain_some}
@@ -28,14 +28,14 @@ returns-in-Err-Failed-clause-serves g c = λ name address before entry o opened.
     let D = g.K.Desk in
     unlistened c.args.board.past o.fresh.legal o.found
     (opened_in_vain (subst (λ (d : DoorTold). GivesInVain c.args.count d (g.D.Door.told c.accept_all.new.door) (Unit {0})) opened (vain_all c.args.count (g.D.Door.told c.args.door.now) (g.D.Door.told c.accept_all.new.door) _ c.in-Err-Failed.ensures.vain c.in-Err-Failed.field-0-is)))
-    (vain_ends D.state name (D.state entry) c.args.board o c.close.result c.close.ensures (D.state c.say.result.0) cannot_listen 8 c.say.result.1 c.say.ensures.closes c.say.ensures.says)
+    (vain_ends D.state name (D.state entry) c.args.board o c.close.result c.close.ensures (D.state c.end_with.result.0) cannot_listen 8 c.end_with.result.1 c.end_with.ensures.closes c.end_with.ensures.says)
 
 pub returns-in-Err-Failed-clause-causes : goal.returns-in-Err-Failed-clause-causes
 returns-in-Err-Failed-clause-causes g c = λ name entry o.
     let D = g.K.Desk in
     record {
-      desk = vain_causes D.state name (D.state entry) c.args.board o c.close.result c.close.ensures (D.state c.say.result.0) c.say.result.1
-          (concludes_said c.say.result.1 c.say.ensures.says (λ is. c.say.ensures.unsaid is (λ same. cc))) (said_apart c.say.result.1 8 5 c.say.ensures.status (λ is. cc) (λ is. cc));
+      desk = vain_causes D.state name (D.state entry) c.args.board o c.close.result c.close.ensures (D.state c.end_with.result.0) c.end_with.result.1
+          c.end_with.ensures.concludes (said_apart c.end_with.result.1 8 5 c.end_with.ensures.status (λ is. cc) (λ is. cc));
       door = c.accept_all.ensures.door;
       unlistened = λ is. c.in-Err-Failed.ensures.cause c.in-Err-Failed.field-0-is;
     }

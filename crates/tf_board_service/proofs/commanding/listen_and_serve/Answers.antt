@@ -1,6 +1,6 @@
 use Rattle.std.proofs.Common.{[], Err, ap, refl, arith}
 use Rattle.tf_desk.proofs.CountLemmas.{rises_later}
-use Rattle.tf_board.proofs.EndLemmas.{concludes_none, concludes_said}
+use Rattle.tf_board.proofs.EndLemmas.{concludes_none}
 use Rattle.tf_board_service.specs.Sessions.{exhausted, not_opened, unlistened}
 use Rattle.tf_board_service.proofs.CommandLemmas.{said_apart, vain_causes, vain_ends, vain_stops}
 use Rattle.tf_board_service.proofs.commanding.listen_and_serve.Goals as goal
@@ -22,14 +22,14 @@ pub returns-in-Err-Failed-clause-serves : goal.returns-in-Err-Failed-clause-serv
 returns-in-Err-Failed-clause-serves g c = λ name entry o.
     let D = g.K.Desk in
     unlistened c.args.board.past o.fresh.legal o.found (not_opened c.in-Err-Failed.ensures.not_opened)
-    (vain_ends D.state name (D.state entry) c.args.board o c.close.result c.close.ensures (D.state c.say.result.0) cannot_listen 8 c.say.result.1 c.say.ensures.closes c.say.ensures.says)
+    (vain_ends D.state name (D.state entry) c.args.board o c.close.result c.close.ensures (D.state c.end_with.result.0) cannot_listen 8 c.end_with.result.1 c.end_with.ensures.closes c.end_with.ensures.says)
 
 pub returns-in-Err-Failed-clause-causes : goal.returns-in-Err-Failed-clause-causes
 returns-in-Err-Failed-clause-causes g c = λ name entry o.
     let D = g.K.Desk in
     record {
-      desk = vain_causes D.state name (D.state entry) c.args.board o c.close.result c.close.ensures (D.state c.say.result.0) c.say.result.1
-          (concludes_said c.say.result.1 c.say.ensures.says (λ is. c.say.ensures.unsaid is (λ same. cc))) (said_apart c.say.result.1 8 5 c.say.ensures.status (λ is. cc) (λ is. cc));
+      desk = vain_causes D.state name (D.state entry) c.args.board o c.close.result c.close.ensures (D.state c.end_with.result.0) c.end_with.result.1
+          c.end_with.ensures.concludes (said_apart c.end_with.result.1 8 5 c.end_with.ensures.status (λ is. cc) (λ is. cc));
       door = c.listen.ensures.no_fall;
       unlistened = λ is. c.in-Err-Failed.ensures.cause (ap Err c.in-Err-Failed.field-0-is);
     }

@@ -1,4 +1,4 @@
-use Rattle.tf_commands.proofs.CourseLemmas.{done_file, undone_file}
+use Rattle.tf_commands.proofs.BehaviourLemmas.{done_file, undone_file}
 use Rattle.tf_commands.specs.Messages.{Audits}
 use Rattle.tf_commands.proofs.auditing.audit_file.Goals as goal
 

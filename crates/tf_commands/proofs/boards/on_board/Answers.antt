@@ -1,11 +1,9 @@
-use Rattle.tf_board.specs.Does.{board_of}
 use Rattle.tf_board.proofs.DoesLemmas.{does_status}
-use Rattle.tf_commands.proofs.BoardLemmas.{board_causes, board_named}
+use Rattle.tf_commands.proofs.BoardLemmas.{board_causes}
 use Rattle.tf_commands.proofs.boards.on_board.Goals as goal
 
 pub returns-clause-causes : goal.returns-clause-causes
 returns-clause-causes g c =
     let b = c.board_command-desk in
-    let named = board_named (board_of c.args.asked) c.requires.board in
     board_causes b.ensures.causes
-    (does_status c.args.asked named.0 (g.K.Desk.state c.args.desk) (g.K.Desk.state b.result.0) b.result.1 (b.ensures.does named.0 named.1))
+    (does_status c.args.request c.args.board.now (g.K.Desk.state c.args.desk) (g.K.Desk.state b.result.0) b.result.1 b.ensures.does)

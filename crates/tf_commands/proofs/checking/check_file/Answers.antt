@@ -1,5 +1,5 @@
-use Rattle.tf_commands.proofs.CourseLemmas.{done_file, undone_file}
-use Rattle.tf_commands.specs.Course.{Checks}
+use Rattle.tf_commands.proofs.BehaviourLemmas.{done_file, undone_file}
+use Rattle.tf_commands.specs.Behaviour.{Checks}
 use Rattle.tf_commands.proofs.checking.check_file.Goals as goal
 
 pub returns-in-Ok-clause-checked : goal.returns-in-Ok-clause-checked

@@ -1,4 +1,4 @@
-use Rattle.tf_commands.proofs.CourseLemmas.{refused_bytes}
+use Rattle.tf_commands.proofs.BehaviourLemmas.{refused_bytes}
 use Rattle.tf_commands.proofs.reading.open_bytes.Goals as goal
 
 pub returns-in-Err-clause-closed : goal.returns-in-Err-clause-closed

@@ -1,6 +1,6 @@
-use Rattle.tf_commands.specs.Course.{unread, too_long}
+use Rattle.tf_commands.specs.Behaviour.{unread, too_long}
 use Rattle.tf_commands.specs.Messages.{refusal}
-use Rattle.tf_commands.proofs.CourseLemmas.{closed_file}
+use Rattle.tf_commands.proofs.BehaviourLemmas.{closed_file}
 use Rattle.tf_commands.proofs.reading.open_file.Goals as goal
 
 pub returns-in-Ok-clause-closed : goal.returns-in-Ok-clause-closed

@@ -1,6 +1,6 @@
 use Rattle.std.proofs.Common.{refl}
 use Rattle.tf_commands.specs.Books.{Runs}
-use Rattle.tf_commands.proofs.CourseLemmas.{done_file, undone_file}
+use Rattle.tf_commands.proofs.BehaviourLemmas.{done_file, undone_file}
 use Rattle.tf_commands.proofs.recording.run_file.Goals as goal
 
 pub returns-in-Ok-clause-runs : goal.returns-in-Ok-clause-runs

@@ -1,8 +1,8 @@
 use Rattle.std.proofs.Common.{sym, ◌∙◌, refl}
-use Rattle.tf_commands.specs.Course.{unheard, obeyed, no_command}
+use Rattle.tf_commands.specs.Behaviour.{unheard, obeyed, no_command}
 use Rattle.tf_words.specs.Words.{command_of}
 use Rattle.tf_commands.proofs.CauseLemmas.{listened_so}
-use Rattle.tf_commands.proofs.CourseLemmas.{within_so, hires_nobody, hires_asked}
+use Rattle.tf_commands.proofs.BehaviourLemmas.{within_so, hires_nobody, hires_asked}
 use Rattle.tf_commands.proofs.HandLemmas.{command_hands}
 use Rattle.tf_commands.proofs.top.answer.Goals as goal
 
@@ -13,15 +13,15 @@ obey-requires-clause-within g c = λ lives kept.
     (λ command is. command_hands c.args.words.now command is)
     (sym c.in-Ok.ensures ∙ c.in-Some.is)
 
-pub returns-in_default-clause-course : goal.returns-in_default-clause-course
-returns-in_default-clause-course g c = unheard refl refl refl
+pub returns-in_default-clause-behaviour : goal.returns-in_default-clause-behaviour
+returns-in_default-clause-behaviour g c = unheard refl refl refl
 
-pub returns-in-Some-clause-course : goal.returns-in-Some-clause-course
-returns-in-Some-clause-course g c =
+pub returns-in-Some-clause-behaviour : goal.returns-in-Some-clause-behaviour
+returns-in-Some-clause-behaviour g c =
     obeyed c.in-Some.asked (sym c.in-Ok.ensures ∙ c.in-Some.is) c.obey.ensures.obeys
 
-pub returns-in-None-clause-course : goal.returns-in-None-clause-course
-returns-in-None-clause-course g c =
+pub returns-in-None-clause-behaviour : goal.returns-in-None-clause-behaviour
+returns-in-None-clause-behaviour g c =
     no_command (sym c.in-Ok.ensures ∙ c.in-None.is) c.close-status.ensures.closes (refl, λ told. ((c.close-status.ensures.says.files told).files, c.close-status.ensures.says.marks told))
 
 pub returns-in_default-clause-hires : goal.returns-in_default-clause-hires

@@ -1,9 +1,9 @@
 use Rattle.std.proofs.Common.{refl}
 use Rattle.tf_ports.specs.Ports.{gives_by}
 use Rattle.tf_commands.specs.Asking.{WasAsked}
-use Rattle.tf_commands.specs.Course.{IsUntouched, Tries}
+use Rattle.tf_commands.specs.Behaviour.{IsUntouched, Tries}
 use Rattle.tf_commands.specs.Books.{NoFileChanges}
-use Rattle.tf_commands.proofs.CourseLemmas.{done_file, undone_file}
+use Rattle.tf_commands.proofs.BehaviourLemmas.{done_file, undone_file}
 use Rattle.tf_commands.proofs.trying.try_file.Goals as goal
 
 pub returns-in-Ok-clause-tried : goal.returns-in-Ok-clause-tried

@@ -4,7 +4,7 @@ use Rattle.tf_order.specs.Arranged.{ShowsFlows}
 use Rattle.tf_order.specs.Refusals.{IsRefusedBy}
 use Rattle.tf_order.specs.Tables.{told_at, plan_seen}
 use Rattle.tf_order.proofs.CompilationLemmas.{refusal_told, shows_plan, standing_fits, graph_is}
-use Rattle.tf_order.proofs.StretchLemmas.{paths_ascend}
+use Rattle.tf_order.proofs.IntervalLemmas.{paths_ascend}
 use Rattle.tf_order.proofs.compilation.compile.Goals as goal
 
 pub returns-in-Some-clause-refused : goal.returns-in-Some-clause-refused

@@ -3,4 +3,4 @@ use Rattle.tf_order.proofs.StandingAtomLemmas.{AtomsOf}
 use Rattle.tf_order.proofs.standing_atoms.standing_atoms.Given as goal
 
 abbrev pub invariant-loop-item : goal.invariant-loop-item
-invariant-loop-item l = AtomsOf l.sight l.atoms.items (take l.item-index l.item-items)
+invariant-loop-item l = AtomsOf l.context l.atoms.items (take l.item-index l.item-items)

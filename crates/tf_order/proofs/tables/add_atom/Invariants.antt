@@ -1,7 +1,7 @@
 use Rattle.std.proofs.Common.{◌≡◌, ◌-◌, ◌≤◌}
 use Rattle.tf_numbers.specs.Numbers.{which_below}
 use Rattle.tf_model.specs.Plan.{is_before}
-use Rattle.tf_order.specs.Stretches.{TellsTheSame}
+use Rattle.tf_order.specs.Intervals.{TellsTheSame}
 use Rattle.tf_order.specs.Tables.{plan_seen, atoms_found, is_after_last, AreRowsAt}
 use Rattle.tf_order.proofs.tables.add_atom.Given as goal
 

@@ -2,9 +2,9 @@ use Rattle.std.proofs.Common.{[], refl, arith}
 use Rattle.std.proofs.lemmas.List.{length-map}
 use Rattle.tf_report.specs.declared.statuses.TheConstants.{DISK_FAILED, UNREAD}
 use Rattle.tf_board.proofs.ActLemmas.{reached_back, said_causes}
-use Rattle.tf_board.proofs.EndLemmas.{opened_reached, reached_stops}
+use Rattle.tf_board.proofs.EndLemmas.{opened_reached, reached_stops, never_said}
 use Rattle.tf_runner.specs.Conducts.{conducted, unhired, unready}
-use Rattle.tf_runner.proofs.CallLemmas.{hires_so, never_said}
+use Rattle.tf_runner.proofs.CallLemmas.{hires_so}
 use Rattle.tf_runner.proofs.commanding.hire_and_conduct.Goals as goal
 
 pub returns-in-Ok-Local-clause-conducts : goal.returns-in-Ok-Local-clause-conducts
@@ -25,16 +25,16 @@ pub returns-in-Err-Failed-clause-conducts : goal.returns-in-Err-Failed-clause-co
 returns-in-Err-Failed-clause-conducts g c = λ contents read name entry o.
     let D = g.K.Desk in
     unhired c.in-Err-Failed.ensures.not_hired c.args.board.past o.fresh.legal o.found
-    (c.say.ensures.reached name c.args.board.past [] c.args.board.past entry (reached_back D.state name (D.state entry) c.close.ensures (opened_reached D.state name (D.state entry) c.args.board o)))
+    (c.end_with.ensures.reached name c.args.board.past [] c.args.board.past entry (reached_back D.state name (D.state entry) c.close.ensures (opened_reached D.state name (D.state entry) c.args.board o)))
 
 pub returns-in-Err-Failed-clause-causes : goal.returns-in-Err-Failed-clause-causes
 returns-in-Err-Failed-clause-causes g c = λ name entry o.
     let D = g.K.Desk in
-    said_causes D.state name (D.state entry) c.close.result (D.state c.say.result.0) c.args.board c.say.result.1 o c.close.ensures c.say.ensures.concludes
-    (never_said DISK_FAILED c.say.ensures.status (λ no. cc) (λ no. cc))
+    said_causes D.state name (D.state entry) c.close.result (D.state c.end_with.result.0) c.args.board c.end_with.result.1 o c.close.ensures c.end_with.ensures.concludes
+    (never_said DISK_FAILED c.end_with.ensures.status (λ no. cc) (λ no. cc))
 
 pub returns-in-Err-Failed-clause-apart : goal.returns-in-Err-Failed-clause-apart
-returns-in-Err-Failed-clause-apart g c = never_said UNREAD c.say.ensures.status (λ no. cc) (λ no. cc)
+returns-in-Err-Failed-clause-apart g c = never_said UNREAD c.end_with.ensures.status (λ no. cc) (λ no. cc)
 
 pub returns-clause-conducts : goal.returns-clause-conducts
 returns-clause-conducts g c = λ contents read name entry o.

@@ -1,9 +1,8 @@
 use Rattle.std.proofs.Common.{[], refl}
 use Rattle.tf_report.specs.declared.statuses.TheConstants.{DISK_FAILED, UNHIRED}
 use Rattle.tf_board.proofs.ActLemmas.{reached_back, said_causes}
-use Rattle.tf_board.proofs.EndLemmas.{concludes_none, opened_reached, reached_stops}
+use Rattle.tf_board.proofs.EndLemmas.{concludes_none, opened_reached, reached_stops, never_said}
 use Rattle.tf_runner.specs.Conducts.{unread, unready}
-use Rattle.tf_runner.proofs.CallLemmas.{never_said}
 use Rattle.tf_runner.proofs.commanding.read_and_conduct.Goals as goal
 
 pub returns-in-Ok-clause-conducts : goal.returns-in-Ok-clause-conducts
@@ -16,16 +15,16 @@ pub returns-in-Err-Read-clause-conducts : goal.returns-in-Err-Read-clause-conduc
 returns-in-Err-Read-clause-conducts g c = λ name entry o.
     let D = g.K.Desk in
     unread refl c.args.board.past o.fresh.legal o.found
-    (c.say.ensures.reached name c.args.board.past [] c.args.board.past entry (reached_back D.state name (D.state entry) c.close.ensures (opened_reached D.state name (D.state entry) c.args.board o)))
+    (c.end_with.ensures.reached name c.args.board.past [] c.args.board.past entry (reached_back D.state name (D.state entry) c.close.ensures (opened_reached D.state name (D.state entry) c.args.board o)))
 
 pub returns-in-Err-Read-clause-causes : goal.returns-in-Err-Read-clause-causes
 returns-in-Err-Read-clause-causes g c = λ name entry o.
     let D = g.K.Desk in
-    said_causes D.state name (D.state entry) c.close.result (D.state c.say.result.0) c.args.board c.say.result.1 o c.close.ensures c.say.ensures.concludes
-    (never_said DISK_FAILED c.say.ensures.status (λ no. cc) (λ no. cc))
+    said_causes D.state name (D.state entry) c.close.result (D.state c.end_with.result.0) c.args.board c.end_with.result.1 o c.close.ensures c.end_with.ensures.concludes
+    (never_said DISK_FAILED c.end_with.ensures.status (λ no. cc) (λ no. cc))
 
 pub returns-in-Err-Read-clause-unhired : goal.returns-in-Err-Read-clause-unhired
-returns-in-Err-Read-clause-unhired g c = λ is. absurd (never_said UNHIRED c.say.ensures.status (λ no. cc) (λ no. cc) is)
+returns-in-Err-Read-clause-unhired g c = λ is. absurd (never_said UNHIRED c.end_with.ensures.status (λ no. cc) (λ no. cc) is)
 
 pub returns-in-Err-TooLong-clause-conducts : goal.returns-in-Err-TooLong-clause-conducts
 returns-in-Err-TooLong-clause-conducts g c = λ name entry o.

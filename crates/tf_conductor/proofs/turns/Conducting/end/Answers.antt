@@ -1,10 +1,10 @@
 use Rattle.std.proofs.Common.{◌≡◌, ℕ, Bool, true, false, List, Some, Result, Ok, Err, refl, sym, ap, subst, ◌∙◌}
 use Rattle.std.specs.Prelude.{IfErr, IfOk, is_ok, slice_get}
 use Rattle.tf_desk.specs.State.{DeskState, GoesOn}
-use Rattle.tf_board.specs.Does.{LeavesRecorded}
-use Rattle.tf_shared_board.specs.Shared.{asked_for, FailsToCall, IsMade}
+use Rattle.tf_board.specs.Does.{LeavesRecorded, asked_for}
+use Rattle.tf_shared_board.specs.Shared.{FailsToCall, IsMade}
 use Rattle.tf_shared_board.specs.declared.calls.CallFault.{CallFault}
-use Rattle.tf_shared_board.specs.declared.calls.JobCall.{JobCall}
+use Rattle.tf_board.specs.declared.calls.JobCall.{JobCall}
 use Rattle.tf_conductor.specs.declared.runners.Ran.{Ran}
 use Rattle.tf_conductor.specs.declared.runners.Ran.TheVariants as ran
 use Rattle.tf_conductor.specs.Conducting.{ConductingValue, EndsJob, conducting_origin}

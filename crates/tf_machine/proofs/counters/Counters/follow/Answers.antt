@@ -2,10 +2,10 @@ use Rattle.std.proofs.Common.{◌≡◌, ℕ, ◌<◌, List, length, sym, ap, �
 use Rattle.tf_numbers.specs.Numbers.{has_number}
 use Rattle.tf_model.specs.Plan.{outline_of, count}
 use Rattle.tf_machine.specs.Counts.{AreDistinct, AreNumbers, after_turn, waiting_of, holding_of}
-use Rattle.tf_machine.specs.Stretches.{AreApart}
+use Rattle.tf_machine.specs.Intervals.{AreApart}
 use Rattle.tf_machine.proofs.CountLemmas.{waiting_moved, holding_moved, successors_distinct, predecessors_distinct, successors_below, predecessors_below}
 use Rattle.tf_machine.proofs.RecordLemmas.{written_back}
-use Rattle.tf_machine.proofs.StretchLemmas.{successors_apart, predecessors_apart}
+use Rattle.tf_machine.proofs.IntervalLemmas.{successors_apart, predecessors_apart}
 use Rattle.tf_machine.proofs.counters.Counters.follow.Goals as goal
 
 pub turn_each-requires-clause-distinct : goal.turn_each-requires-clause-distinct

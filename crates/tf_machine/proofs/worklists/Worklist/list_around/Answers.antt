@@ -4,9 +4,9 @@ use Rattle.tf_model.specs.Plan.{outline_of}
 use Rattle.tf_model.specs.History.{is_done, is_settled, is_revert_failure}
 use Rattle.tf_machine.specs.Tables.{shown_by}
 use Rattle.tf_machine.proofs.CountLemmas.{successors_below, predecessors_below, successors_distinct, predecessors_distinct}
-use Rattle.tf_machine.proofs.StretchLemmas.{successors_apart, predecessors_apart}
+use Rattle.tf_machine.proofs.IntervalLemmas.{successors_apart, predecessors_apart}
 use Rattle.tf_machine.specs.Counts.{AreDistinct}
-use Rattle.tf_machine.specs.Stretches.{AreApart}
+use Rattle.tf_machine.specs.Intervals.{AreApart}
 use Rattle.tf_machine.proofs.WorkLemmas.{around_listed}
 use Rattle.tf_machine.proofs.worklists.Worklist.list_around.Goals as goal
 

@@ -1,11 +1,11 @@
 use Rattle.std.proofs.Common.{◌≡◌, ◌∙◌, ℕ, List, [], ◌∷◌, ◌++◌, Option, Some, None, sym, ap, subst}
-use Rattle.tf_board.specs.Does.{IsRecorded, LeavesRecorded}
+use Rattle.tf_board.specs.Does.{IsRecorded, LeavesRecorded, asked_for, command_of, id_named, refuses_call}
 use Rattle.tf_board.specs.declared.faults.BoardFault.{BoardFault}
 use Rattle.tf_desk.specs.State.{GoesOn}
 use Rattle.tf_shared_board.specs.declared.calls.BoardHalt.{BoardHalt}
 use Rattle.tf_shared_board.specs.declared.calls.BoardHalt.TheVariants as halt
 use Rattle.tf_shared_board.specs.declared.calls.Made.{Made}
-use Rattle.tf_shared_board.specs.Shared.{FailsToAsk, asked_for, command_of, id_named, refuses_call, IsShared}
+use Rattle.tf_shared_board.specs.Shared.{FailsToAsk, IsShared}
 use Rattle.tf_shared_board.proofs.ShareLemmas.{kept_halted, kept_made, kept_ruled, kept_stopped}
 use Rattle.tf_shared_board.proofs.shared.SharedBoard.call.Goals as goal
 

@@ -1,0 +1,22 @@
+//! Hands that perform the built-in tasks, and crews of them.
+use std::alloc::Global;
+use std::test::Fail;
+use tf_ports::{MemoryCrew, MemorySpawner};
+use tf_tasks::LocalHand;
+
+/// A hand that performs the built-in tasks.
+pub(crate) type Hand = LocalHand<MemorySpawner>;
+
+/// A hand of this process.
+pub(crate) fn local_hand(alloc: Global) -> Hand {
+    LocalHand::make(MemorySpawner::make(alloc, Vec::new(alloc), Vec::new(alloc)))
+}
+
+/// A crew of two hands, whose stated calls fail.
+pub(crate) fn crew(alloc: Global, failing: &[u64]) -> Result<MemoryCrew<Hand>, Fail> {
+    let mut hands = Vec::new(alloc);
+    hands.push(local_hand(alloc))?;
+    hands.push(local_hand(alloc))?;
+    let failing = Vec::from_slice(alloc, failing)?;
+    Ok(MemoryCrew::make(alloc, hands, failing))
+}

@@ -1,0 +1,12 @@
+//! What holds over a life of a file: of calls of the program, one after another, by any words, where each starts from
+//! what the one before it left, or from what a crash inside that left. The functions do nothing; their contracts are the
+//! laws, and follow from the clauses of the top call alone.
+#![tactic(auto)]
+
+mod laws;
+
+pub use laws::{
+    boards_only_grow, ends_as_stated, every_entry_is_a_step, histories_are_not_refused,
+    history_only_grows, nothing_shown_is_lost, one_owner, orders_stand_in_the_book,
+    what_was_carried_over_stands, what_was_done_stands,
+};

@@ -1,6 +1,0 @@
-use Rattle.std.proofs.Common.{take}
-use Rattle.tf_order.proofs.SightLemmas.{ItemsOf}
-use Rattle.tf_order.proofs.sight.providing_items.Given as goal
-
-abbrev pub invariant-loop-atom : goal.invariant-loop-atom
-invariant-loop-atom l = ItemsOf l.sight l.set (take l.atom-index l.atom-items)
