@@ -3,7 +3,10 @@
 #![tactic(auto)]
 
 use std::env::Env;
+use std::fs::{self, File};
+use std::marker::Brand;
 use std::process::ExitCode;
+use std::rt::Files;
 use std::{env, io};
 use tf_commands::{Outside, ProgramCrew, taskflow};
 use tf_desk::FileDesk;
@@ -11,8 +14,12 @@ use tf_ports::{Folder, SocketDialer, SocketDoor};
 use tf_report::OUT_OF_MEMORY;
 use tf_words::{Word, access_of};
 
+/// What is opened so that nothing else takes the number of a standard stream that was closed before.
+const NOTHING: &str = "/dev/null";
+
 fn main(rt: HostRuntime) -> ExitCode {
     let alloc = rt.alloc();
+    let _taken = take_streams(&rt);
     let words = match read_arguments(&rt) {
         Ok(words) => words,
         Err(fault) => {
@@ -25,12 +32,18 @@ fn main(rt: HostRuntime) -> ExitCode {
     };
     let outside = Outside {
         desk: FileDesk::make(rt, access_of(&words)),
-        sources: Folder::make(rt),
+        sources: Folder::<HostRuntime, Brand>::make(rt),
         crew: ProgramCrew::make(rt, SocketDialer::make(rt)),
         door: SocketDoor::make(rt),
     };
     let ended = taskflow(&rt, alloc, &words, outside);
     ExitCode::from(ended.status)
+}
+
+/// Takes the numbers of the standard streams, where they are free, until the answer is let go: the system gives a file or
+/// a socket the least free number, and what is said must not go into it. Where it can't be opened they stay as they are.
+fn take_streams<R: Files<File = File>>(rt: &R) -> [Option<File>; 3] {
+    [fs::open(rt, NOTHING).ok(), fs::open(rt, NOTHING).ok(), fs::open(rt, NOTHING).ok()]
 }
 
 /// The words after the program's own name.

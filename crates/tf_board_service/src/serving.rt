@@ -213,6 +213,8 @@ pub(crate) fn serve<K: Desk, L: Link, T: Wait>(
     'frames: for _ in rt.forever() {
         if let Err(end) = go_on(rt, alloc, turnstile, server, number, &mut incoming) {
             finish(rt, turnstile, server, number, end);
+            // The client learns that its session is over while other clients are still served.
+            server.link.end();
             return;
         }
     }

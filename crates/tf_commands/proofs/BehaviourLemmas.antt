@@ -2,7 +2,8 @@
 use Rattle.std.proofs.Common.{◌≡◌, ◌≤◌, ℕ, length, List, Option, Some, None, Bool, true, false, refl, sym, inl, inr, subst}
 use Rattle.std.specs.Prelude.{Result, Ok, Err, IfErr, option_and_then, if◌then◌else◌}
 use Rattle.tf_flow.specs.Plan.{PlanTree, plan_tree}
-use Rattle.tf_ports.specs.Ports.{Contents, GivesBytes, CrewTold}
+use Rattle.tf_ports.specs.Ports.{Contents, GivesBytes, TellsStill, CrewTold}
+use Rattle.tf_ports.proofs.TellsLemmas.{gives_on}
 use Rattle.tf_ports.specs.declared.reading.TheConstants.{SOURCE_LIMIT}
 use Rattle.tf_desk.specs.State.{DeskState}
 use Rattle.tf_ports.specs.declared.crews.Want.{Want}
@@ -49,6 +50,10 @@ closed_file (Ok made) files source bytes untouched before after given short clos
 closed_file (Err status) files source bytes untouched before after given short closed = read bytes given short closed
 
 -- ---- a file
+
+-- what was opened before some call was opened
+pub opened_on : (before after : Contents) (source : Source) (m : MachineValue) → TellsStill before after → Opened before source m → Opened after source m
+opened_on before after source m still o = record { bytes = o.bytes; given = gives_on before after source.file o.bytes still o.given; short = o.short; plan = o.plan }
 
 undone_bytes : (source : Source) (bytes : List ℕ) (untouched quiet : Type 0) (does : PlanTree → ℕ → Type 0) (before after : Option (List ℕ)) (status : ℕ) → (untouched → quiet)
     → BytesRead source bytes untouched Undone before after status → BytesRead source bytes quiet does before after status

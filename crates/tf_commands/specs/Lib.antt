@@ -5,3 +5,4 @@ pub mod Behaviour
 pub mod Opened
 pub mod Runs
 pub mod Begun
+pub mod Crews

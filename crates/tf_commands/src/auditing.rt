@@ -4,6 +4,7 @@ ghost use Rattle.std.specs.Prelude.{◌≡◌, ◌≢◌, ◌≤◌, []};
 ghost use Rattle.tf_numbers.specs.Numbers.{Rises};
 ghost use Rattle.tf_flow.specs.Plan.{plan_tree};
 ghost use Rattle.tf_machine.specs.Machine.{outline, StandsFor};
+ghost use Rattle.tf_ports.specs.Ports.{TellsStill};
 ghost use Rattle.tf_commands.specs.Messages.{Audits, Judges, verdict_status};
 ghost use Rattle.tf_commands.specs.Behaviour.{FileRead};
 ghost use Rattle.tf_commands.specs.Books.{NoFileChanges, OnlySays, HasSaid};
@@ -31,8 +32,8 @@ pub fn audit_file<K: Desk, S: Sources>(
     desk: &mut K,
     sources: &mut S,
 ) -> u8
-    ensures audited { FileRead (S.contents sources.old) source (NoFileChanges (K.state desk.old) (K.state desk.new))
-        (Audits (S.contents sources.old) log.now (K.state desk.old).shown (K.state desk.new).shown)
+    ensures audited { FileRead (S.contents sources.new) source (NoFileChanges (K.state desk.old) (K.state desk.new))
+        (Audits (S.contents sources.new) log.now (K.state desk.old).shown (K.state desk.new).shown)
         (K.state desk.old).shown (K.state desk.new).shown result }
     ensures says { OnlySays (K.state desk.old) (K.state desk.new) }
     ensures unread { result ≡ UNREAD → Rises (S.faults sources.old) (S.faults sources.new) }
@@ -55,13 +56,14 @@ fn audit_log<K: Desk, S: Sources>(
     sources: &mut S,
 ) -> u8
     requires { StandsFor machine [] }
-    ensures audits { Audits (S.contents sources.old) log.now (K.state desk.old).shown (K.state desk.new).shown
+    ensures audits { Audits (S.contents sources.new) log.now (K.state desk.old).shown (K.state desk.new).shown
         (plan_tree machine.plan) result }
     ensures says { OnlySays (K.state desk.old) (K.state desk.new) }
     ensures unread { result ≡ UNREAD → Rises (S.faults sources.old) (S.faults sources.new) }
     ensures unsaid { result ≡ UNSAID → Rises (K.state desk.old).out_faults (K.state desk.new).out_faults }
     ensures apart { (result ≢ UNHIRED) × (result ≢ DISK_FAILED) }
     ensures no_source_fall { S.faults sources.old ≤ S.faults sources.new }
+    ensures still { TellsStill (S.contents sources.old) (S.contents sources.new) }
 {
     match sources.read_all(alloc, log) {
         Ok(bytes) => judge(alloc, machine, &bytes, desk),

@@ -23,7 +23,7 @@ pub fn check_file<K: Desk, S: Sources>(
     desk: &mut K,
     sources: &mut S,
 ) -> u8
-    ensures checked { FileRead (S.contents sources.old) source (NoFileChanges (K.state desk.old) (K.state desk.new))
+    ensures checked { FileRead (S.contents sources.new) source (NoFileChanges (K.state desk.old) (K.state desk.new))
         (Checks (K.state desk.old).shown (K.state desk.new).shown)
         (K.state desk.old).shown (K.state desk.new).shown result }
     ensures says { OnlySays (K.state desk.old) (K.state desk.new) }

@@ -39,10 +39,10 @@ pub fn open_file<K: Desk, S: Sources>(
     desk: &mut K,
     sources: &mut S,
 ) -> Result<Machine, u8>
-    ensures opened { IfOk result (Opened (S.contents sources.old) source) }
+    ensures opened { IfOk result (Opened (S.contents sources.new) source) }
     ensures empty { IfOk result (λ machine. StandsFor machine []) }
     ensures same { OnOk result (desk.new ≡ desk.old) }
-    ensures closed { IfErr result (FileRead (S.contents sources.old) source
+    ensures closed { IfErr result (FileRead (S.contents sources.new) source
         (NoFileChanges (K.state desk.old) (K.state desk.new)) Undone
         (K.state desk.old).shown (K.state desk.new).shown) }
     ensures says { OnlySays (K.state desk.old) (K.state desk.new) }
@@ -50,7 +50,6 @@ pub fn open_file<K: Desk, S: Sources>(
     ensures unsaid { result ≡ Err UNSAID → Rises (K.state desk.old).out_faults (K.state desk.new).out_faults }
     ensures apart { (result ≢ Err UNHIRED) × (result ≢ Err DISK_FAILED) }
     ensures no_source_fall { S.faults sources.old ≤ S.faults sources.new }
-    ensures same_sources { S.contents sources.new ≡ S.contents sources.old }
 {
     match sources.read_all(alloc, &source.file) {
         Ok(bytes) => open_bytes(alloc, &bytes, source, desk),

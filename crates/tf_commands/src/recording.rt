@@ -43,7 +43,7 @@ pub fn run_file<K: Desk + Send, S: Sources, W: Crew, R: Threads + Wait + Sync>(
     crew: &mut W,
 ) -> Over<K>
     requires few { AreHands request.now.want }
-    ensures runs { FileRead (S.contents sources.old) source
+    ensures runs { FileRead (S.contents sources.new) source
         (IsUntouched (W.told crew.old) (W.told crew.new) (K.state desk) (K.state result.desk))
         (Runs (gives_by W.Hand.gives W.Far.gives request.now.want) request.now
         (WasAsked (K.state desk) (K.state result.desk)) name.now

@@ -64,7 +64,7 @@ pub fn taskflow<K: Desk + Send, S: Sources, W: Crew, L: Door, R: Threads + Wait 
     // opened and how each of its links was served, what was recorded, what was shown, what a crash may leave, and the
     // status.
     ensures behaviour { Behaviour K.state (gives_by W.Hand.gives W.Far.gives)
-        (WasAsked (K.state outside.desk) (K.state result.outside.desk)) words.now (S.contents outside.sources)
+        (WasAsked (K.state outside.desk) (K.state result.outside.desk)) words.now (S.contents result.outside.sources)
         (ports_told W.told L.told outside.crew outside.door)
         (ports_told W.told L.told result.outside.crew result.outside.door) outside.desk result.outside.desk
         result.status }
@@ -73,7 +73,7 @@ pub fn taskflow<K: Desk + Send, S: Sources, W: Crew, L: Door, R: Threads + Wait 
     ensures no_command { result.status ≡ NO_COMMAND → command_of words.now ≡ None }
 
     // Status 4 comes only where the file is too long or gives no plan to run, or none up to the target that is named.
-    ensures refused { result.status ≡ REFUSED → IsRefused words.now (S.contents outside.sources) }
+    ensures refused { result.status ≡ REFUSED → IsRefused words.now (S.contents result.outside.sources) }
 
     // Status 15 comes only where the words are a command on a board which refuses it, by the commands that its file has.
     ensures board_refused { result.status ≡ BOARD_REFUSED → IsBoardRefused words.now (K.state outside.desk) }
@@ -83,7 +83,7 @@ pub fn taskflow<K: Desk + Send, S: Sources, W: Crew, L: Door, R: Threads + Wait 
 
     // Status 17 comes only where the words are an audit, whose flow file gives a plan, and whose log is too long or has a
     // line that can't be in a run of that plan.
-    ensures log_refused { result.status ≡ LOG_REFUSED → IsLogRefused words.now (S.contents outside.sources) }
+    ensures log_refused { result.status ≡ LOG_REFUSED → IsLogRefused words.now (S.contents result.outside.sources) }
 
     // A file that gives a plan is run to its end, or said to be in order, a flow that a book holds is resumed to its
     // end, or shown, or put back, the details of a book are listed, a book of the older format that holds a flow is
@@ -92,7 +92,7 @@ pub fn taskflow<K: Desk + Send, S: Sources, W: Crew, L: Door, R: Threads + Wait 
     // alone), a stop was asked for or memory ran out; 13 comes only as the behaviour says, and 12 only where there is a
     // limit of entries.
     ensures complete { (command : AnAsked) → command_of words.now ≡ Some command
-        → MayBeDone command (S.contents outside.sources) (K.state outside.desk)
+        → MayBeDone command (S.contents result.outside.sources) (K.state outside.desk)
         → ¬ (WasAsked (K.state outside.desk) (K.state result.outside.desk))
         → (IsWork command → ¬ (Rises (L.faults outside.door) (L.faults result.outside.door)))
         → HasNoFault (counts_of (K.state outside.desk) (S.faults outside.sources) (W.faults outside.crew))
@@ -145,7 +145,7 @@ fn answer<K: Desk + Send, S: Sources, W: Crew, L: Door, R: Threads + Wait + Sync
 ) -> Over<K>
     ensures behaviour { Behaviour K.state (gives_by W.Hand.gives W.Far.gives)
         (WasAsked (K.state desk) (K.state result.desk)) words.now
-        (S.contents sources.old) (ports_told W.told L.told crew.old door.old)
+        (S.contents sources.new) (ports_told W.told L.told crew.old door.old)
         (ports_told W.told L.told crew.new door.new) desk result.desk result.status }
     ensures hires { HiresAsAsked words.now (W.told crew.old) (W.told crew.new) }
     ensures aside { ¬ (AsksForWork words.now) → L.told door.new ≡ L.told door.old }
@@ -186,7 +186,7 @@ fn obey<K: Desk + Send, S: Sources, W: Crew, L: Door, R: Threads + Wait + Sync>(
     requires within { IsWithin asked }
     ensures obeys { Obeys K.state (gives_by W.Hand.gives W.Far.gives)
         (WasAsked (K.state desk) (K.state result.desk)) asked
-        (S.contents sources.old) (ports_told W.told L.told crew.old door.old)
+        (S.contents sources.new) (ports_told W.told L.told crew.old door.old)
         (ports_told W.told L.told crew.new door.new) desk result.desk result.status }
     ensures hires { HiresAsWanted (want_of asked) (W.told crew.old) (W.told crew.new) }
     ensures aside { ¬ (IsWork asked) → L.told door.new ≡ L.told door.old }

@@ -35,7 +35,7 @@ pub fn try_file<K: Desk + Send, S: Sources, W: Crew, R: Threads + Wait + Sync>(
 ) -> Over<K>
     requires said { request.now ≡ spoken_run request.now.want None }
     requires few { AreHands request.now.want }
-    ensures tried { FileRead (S.contents sources.old) source
+    ensures tried { FileRead (S.contents sources.new) source
         (IsUntouched (W.told crew.old) (W.told crew.new) (K.state desk) (K.state result.desk))
         (Tries (gives_by W.Hand.gives W.Far.gives request.now.want) request.now.want
         (WasAsked (K.state desk) (K.state result.desk))

@@ -2,3 +2,5 @@ mod CrewLemmas
 mod LinkLemmas
 mod RemainingLemmas
 mod SocketLemmas
+mod FolderLemmas
+pub mod TellsLemmas

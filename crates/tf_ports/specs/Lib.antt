@@ -9,3 +9,5 @@ pub mod MemorySpawner
 pub mod PlayedLaws
 pub mod Remaining
 pub mod Sockets
+pub mod Folder
+pub mod Noted

@@ -1,6 +1,6 @@
 -- What the calls of a link do to the bytes that it tells of. What is told of sources and of a door, and which hands are
 -- wanted.
-use Rattle.std.specs.Prelude.{◌≡◌, ℕ, ◌<◌, ◌≤◌, List, [], ◌++◌, length, take, map, Option, Some, None, option_map, vec_len}
+use Rattle.std.specs.Prelude.{◌≡◌, ◌⊎◌, ℕ, ◌<◌, ◌≤◌, List, [], ◌++◌, length, take, map, Option, Some, None, option_map, vec_len}
 use Rattle.std.specs.List.{AllByRecursion}
 use Rattle.tf_ports.specs.declared.links.Came.{Came}
 use Rattle.tf_actions.specs.declared.orders.Order.{Order}
@@ -66,6 +66,10 @@ GivesBytes (Some sources) name bytes = sources name ≡ Some bytes
 abbrev pub PassesLimit : Contents → List ℕ → Type 0
 PassesLimit None name = Unit {0}
 PassesLimit (Some sources) name = (bytes : List ℕ) × (sources name ≡ Some bytes) × (262144 < length bytes)
+
+-- what is told after some call: what was told before it, or nothing any more
+abbrev pub TellsStill : Contents → Contents → Type 0
+TellsStill before after = (after ≡ before) ⊎ (after ≡ None)
 
 -- ---- lists that are told
 

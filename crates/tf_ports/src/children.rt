@@ -1,25 +1,36 @@
-ghost use Rattle.std.specs.Prelude.{◌≤◌, length, None, IfOk};
+ghost use Rattle.std.specs.Prelude.{◌≡◌, ◌≤◌, [], length, Some, IfOk};
 ghost use Rattle.tf_ports.specs.Remaining.{IsFirstLeft};
+ghost use Rattle.tf_ports.specs.Noted.{runs_of};
 
 use crate::programs::{Done, OUTPUT_LIMIT, Output, SpawnFault, Spawner};
 use std::alloc::Global;
 use std::io::{self, Eprint, Error, ErrorKind, Read};
 use std::process::{Command, Processes, Stdio};
 use tf_desk::{read_on, tell_reason};
+use tf_log::Log;
 use tf_values::{Text, Texts};
 
 /// The real spawner: a program is a child of this process, with no input, and it has this process's standard
-/// error. Where a program can't be run the system's reason is said there. It tells its count alone.
+/// error. Where a program can't be run the system's reason is said there. It notes and tells which programs it
+/// ran.
 #[derive(Drop)]
 pub struct Children<R> {
     runtime: R,
     faults: u64,
+    runs: Log<Text, Texts>,
 }
 
 impl<R> Children<R> {
-    /// A spawner with no fault so far.
-    pub fn make(runtime: R) -> Children<R> {
-        Children { runtime, faults: 0 }
+    /// A spawner with nothing run and no fault so far.
+    pub fn make(runtime: R) -> Children<R>
+        ensures unrun { result.runs.items ≡ [] }
+        ensures none { result.faults ≡ 0 }
+    {
+        Children {
+            runtime,
+            faults: 0,
+            runs: Log::new(),
+        }
     }
 }
 
@@ -28,11 +39,14 @@ impl<R: Processes + Eprint + Drop> Spawner for Children<R> {
 
     ghost answers = { λ _ _ _ _. Unit {0} };
 
-    ghost ran = { λ _. None };
+    ghost ran = { λ children. Some (runs_of children.runs.items) };
 
     fn run(&mut self, alloc: Global, program: &Text, args: &Texts) -> Result<Done, SpawnFault> {
         match run_child(&self.runtime, alloc, program, args) {
-            Ok(done) => Ok(done),
+            Ok(done) => {
+                self.runs = self.runs.and(program, args);
+                Ok(done)
+            }
             Err(SpawnFault::Failed) => {
                 self.faults = self.faults.saturating_add(1);
                 Err(SpawnFault::Failed)

@@ -47,4 +47,9 @@ pub trait Link: Drop {
         ensures end { result ≡ Came.End → Rises (ends self.old) (ends self.new) }
         ensures cause { result ≡ Came.Failed → Rises (faults self.old) (faults self.new) }
         ensures no_fall { (faults self.old ≤ faults self.new) × (ends self.old ≤ ends self.new) };
+
+    /// Ends the link, so that the other process learns at once that nothing more comes; it was sent nothing by this.
+    fn end(&mut self)
+        ensures same { (left self.new ≡ left self.old) × (sent self.new ≡ sent self.old) }
+        ensures counts { (faults self.new ≡ faults self.old) × (ends self.new ≡ ends self.old) };
 }

@@ -76,6 +76,10 @@ impl Sources for MemorySources {
         }
         Vec::from_slice(alloc, bytes).map_err(|_| SourceFault::Memory)
     }
+
+    fn read_stored(&mut self, alloc: Global, name: &Text) -> Result<Vec<u8>, SourceFault> {
+        self.read_all(alloc, name)
+    }
 }
 
 /// The bytes of the first source of that name.

@@ -121,6 +121,8 @@ impl Link for MemoryLink {
         self.given += count;
         Came::Bytes(count)
     }
+
+    fn end(&mut self) {}
 }
 
 /// Copies the front of the bytes into the buffer: as many as it holds, and at most so many.

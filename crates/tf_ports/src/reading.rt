@@ -1,6 +1,6 @@
 ghost use Rattle.std.specs.Prelude.{◌≡◌, ℕ, ◌≤◌, length, IfOk, IsErrOf};
 ghost use Rattle.tf_numbers.specs.Numbers.{Rises};
-ghost use Rattle.tf_ports.specs.Ports.{Contents, GivesBytes, PassesLimit};
+ghost use Rattle.tf_ports.specs.Ports.{Contents, GivesBytes, PassesLimit, TellsStill};
 
 use std::alloc::Global;
 use tf_values::Text;
@@ -18,7 +18,8 @@ pub enum SourceFault {
 
 /// What is read by name, as flow files are.
 pub trait Sources: Drop {
-    /// The bytes under each name, where the sources tell them. No call changes them.
+    /// The bytes under each name, where the sources tell them. A call changes them at no name; but sources that learn by it
+    /// that what they told can't be tell nothing from then on.
     ghost contents: { Self → Contents };
 
     /// How many faults there were. The count never falls, and stands still at the greatest u64.
@@ -27,10 +28,20 @@ pub trait Sources: Drop {
     /// All bytes of the source of that name. `Read` comes only where the count of faults rose, and
     /// `TooLong` exactly where the source has more than 262,144 bytes.
     fn read_all(&mut self, alloc: Global, name: &Text) -> Result<Vec<u8>, SourceFault>
-        ensures whole { IfOk result (λ bytes. GivesBytes (contents self.old) name.now bytes.items) }
+        ensures whole { IfOk result (λ bytes. GivesBytes (contents self.new) name.now bytes.items) }
         ensures short { IfOk result (λ bytes. length bytes.items ≤ SOURCE_LIMIT) }
-        ensures too_long { IsErrOf result SourceFault.TooLong → PassesLimit (contents self.old) name.now }
+        ensures too_long { IsErrOf result SourceFault.TooLong → PassesLimit (contents self.new) name.now }
         ensures cause { IsErrOf result SourceFault.Read → Rises (faults self.old) (faults self.new) }
-        ensures same { contents self.new ≡ contents self.old }
+        ensures still { TellsStill (contents self.old) (contents self.new) }
+        ensures no_fall { faults self.old ≤ faults self.new };
+
+    /// The same of a source that has all its bytes from the start, as a file on a disk has: any other, as a pipe that
+    /// another process fills, isn't waited for, and is one that can't be read.
+    fn read_stored(&mut self, alloc: Global, name: &Text) -> Result<Vec<u8>, SourceFault>
+        ensures whole { IfOk result (λ bytes. GivesBytes (contents self.new) name.now bytes.items) }
+        ensures short { IfOk result (λ bytes. length bytes.items ≤ SOURCE_LIMIT) }
+        ensures too_long { IsErrOf result SourceFault.TooLong → PassesLimit (contents self.new) name.now }
+        ensures cause { IsErrOf result SourceFault.Read → Rises (faults self.old) (faults self.new) }
+        ensures still { TellsStill (contents self.old) (contents self.new) }
         ensures no_fall { faults self.old ≤ faults self.new };
 }

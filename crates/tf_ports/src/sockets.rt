@@ -1,5 +1,6 @@
-ghost use Rattle.std.specs.Prelude.{◌<◌, length, None};
-ghost use Rattle.tf_ports.specs.Ports.{door_tells_nothing};
+ghost use Rattle.std.specs.Prelude.{◌≡◌, ◌<◌, [], length, None, Some, IfOk};
+ghost use Rattle.tf_desk.specs.FileDesk.{said_in, SaysSome};
+ghost use Rattle.tf_ports.specs.Noted.{door_told, firsts, seen_by};
 ghost use Rattle.tf_ports.specs.Sockets.{ReadsSome};
 
 use crate::crews::{Address, PortFault};
@@ -7,11 +8,13 @@ use crate::dialers::Dialer;
 use crate::doors::Door;
 use crate::links::{Came, Link, LinkFault};
 use std::alloc::Global;
-use std::io::{self, Eprint, Error, ErrorKind, Read};
-use std::net::{Ipv4Addr, Net, SocketAddrV4, TcpListener, TcpStream};
+use std::io::{self, Eprint, Error, ErrorKind, Read, Write};
+use std::net::{Ipv4Addr, Net, Shutdown, SocketAddrV4, TcpListener, TcpStream};
 use std::os::unix::net::{UnixListener, UnixStream};
 use std::rt::Files;
-use tf_desk::{tell_reason, write_whole};
+use tf_desk::tell_reason;
+use tf_log::Log;
+use tf_trace::Trace;
 use tf_values::Memory;
 
 /// A stream of the system's: a Unix socket's, or a connection by TCP.
@@ -22,7 +25,7 @@ enum Stream {
 }
 
 /// A real link, over a socket. Where it fails the system's reason is said on standard error, behind the address at
-/// which it was made. It tells its counts alone.
+/// which it was made. It notes what it sends, and tells it; of what comes it tells nothing.
 #[derive(Drop)]
 pub struct SocketLink<R> {
     runtime: R,
@@ -30,17 +33,22 @@ pub struct SocketLink<R> {
     stream: Stream,
     faults: u64,
     ends: u64,
+    trace: Trace,
 }
 
 impl<R> SocketLink<R> {
     /// A link that was made at the address, with no fault and no end so far.
-    fn make(runtime: R, address: Address, stream: Stream) -> SocketLink<R> {
+    fn make(runtime: R, address: Address, stream: Stream) -> SocketLink<R>
+        ensures unsent { result.trace.calls ≡ [] }
+        ensures none { (result.faults ≡ 0) × (result.ends ≡ 0) }
+    {
         SocketLink {
             runtime,
             address,
             stream,
             faults: 0,
             ends: 0,
+            trace: Trace::new(),
         }
     }
 }
@@ -48,7 +56,7 @@ impl<R> SocketLink<R> {
 impl<R: Eprint + Drop> Link for SocketLink<R> {
     ghost left = { λ _. None };
 
-    ghost sent = { λ _. None };
+    ghost sent = { λ link. Some (said_in link.trace.calls) };
 
     ghost faults = { λ link. link.faults };
 
@@ -56,8 +64,8 @@ impl<R: Eprint + Drop> Link for SocketLink<R> {
 
     fn send(&mut self, bytes: &[u8]) -> Result<(), LinkFault> {
         let done = match &mut self.stream {
-            Stream::Unix(stream) => write_whole(stream, bytes),
-            Stream::Tcp(stream) => write_whole(stream, bytes),
+            Stream::Unix(stream) => send_whole(stream, &mut self.trace, bytes),
+            Stream::Tcp(stream) => send_whole(stream, &mut self.trace, bytes),
         };
         if let Err(reason) = done {
             tell_address_reason(&self.runtime, &self.address, &reason);
@@ -84,6 +92,40 @@ impl<R: Eprint + Drop> Link for SocketLink<R> {
             }
         }
     }
+
+    fn end(&mut self) {
+        // One that the peer ended already can't be ended again.
+        let _ended = match &self.stream {
+            Stream::Unix(stream) => stream.shutdown(Shutdown::Both),
+            Stream::Tcp(stream) => stream.shutdown(Shutdown::Both),
+        };
+    }
+}
+
+/// Sends the bytes over the stream, in as many writes as it takes; an interrupted one is tried again. `Err`: a write failed
+/// or took nothing, and a prefix of the bytes was sent.
+fn send_whole<S: Write>(stream: &mut S, trace: &mut Trace, bytes: &[u8]) -> io::Result<()>
+    ensures { SaysSome bytes.now result (said_in trace.old.calls) (said_in trace.new.calls) }
+{
+    let mut done = 0;
+    for _ in 0..u64::MAX {
+        if done >= bytes.len() {
+            return Ok(());
+        }
+        match stream.write(&bytes[done..]) {
+            Ok(0) => return Err(Error::from(ErrorKind::WriteZero)),
+            Ok(n) => {
+                trace.said(&bytes[done..done + n]);
+                done += n;
+            }
+            Err(reason) => {
+                if reason.kind() != ErrorKind::Interrupted {
+                    return Err(reason);
+                }
+            }
+        }
+    }
+    Err(Error::from(ErrorKind::Interrupted))
 }
 
 /// What comes next over the stream of a link that was made at the address; an interrupted read is tried again.
@@ -121,22 +163,32 @@ struct Opened {
 }
 
 /// The real door: a Unix socket at a path that nothing has yet, and that stays when the door is gone, or a
-/// port of 127.0.0.1. Where it can't be opened, or fails, the system's reason is said on standard error. It tells
-/// its count alone.
+/// port of 127.0.0.1. Where it can't be opened, or fails, the system's reason is said on standard error. It notes and
+/// tells where it was opened, and of each link what was seen as it was given and given back.
 #[derive(Drop)]
 pub struct SocketDoor<R> {
     runtime: R,
     opened: Option<Opened>,
     faults: u64,
+    addresses: Log<Address, ()>,
+    given: Log<SocketLink<R>, ()>,
+    returned: Log<SocketLink<R>, ()>,
 }
 
 impl<R> SocketDoor<R> {
     /// A door that isn't open yet, with no fault so far.
-    pub fn make(runtime: R) -> SocketDoor<R> {
+    pub fn make(runtime: R) -> SocketDoor<R>
+        ensures unopened { result.addresses.items ≡ [] }
+        ensures ungiven { (result.given.items ≡ []) × (result.returned.items ≡ []) }
+        ensures none { result.faults ≡ 0 }
+    {
         SocketDoor {
             runtime,
             opened: None,
             faults: 0,
+            addresses: Log::new(),
+            given: Log::new(),
+            returned: Log::new(),
         }
     }
 }
@@ -147,7 +199,8 @@ impl<R: Net<Listener = TcpListener, Stream = TcpStream> + Files + Eprint + Copy 
 
     ghost faults = { λ door. door.faults };
 
-    ghost told = { λ _. door_tells_nothing };
+    ghost told = { λ door. door_told (λ link. seen_by link.trace.calls link.faults link.ends)
+        door.addresses.items door.given.items door.returned.items };
 
     fn listen(&mut self, alloc: Global, address: &Address) -> Result<(), PortFault> {
         let Ok(kept) = address.copy(alloc) else {
@@ -159,6 +212,7 @@ impl<R: Net<Listener = TcpListener, Stream = TcpStream> + Files + Eprint + Copy 
                     address: kept,
                     listener,
                 });
+                self.addresses = self.addresses.and(address, &());
                 Ok(())
             }
             Err(reason) => {
@@ -175,7 +229,10 @@ impl<R: Net<Listener = TcpListener, Stream = TcpStream> + Files + Eprint + Copy 
             None => Err(PortFault::Failed),
         };
         match made {
-            Ok(link) => Ok(link),
+            Ok(link) => {
+                self.given = self.given.and(&link, &());
+                Ok(link)
+            }
             Err(PortFault::Failed) => {
                 self.faults = self.faults.saturating_add(1);
                 Err(PortFault::Failed)
@@ -185,6 +242,7 @@ impl<R: Net<Listener = TcpListener, Stream = TcpStream> + Files + Eprint + Copy 
     }
 
     fn close(&mut self, link: SocketLink<R>) -> Result<(), Memory> {
+        self.returned = self.returned.and(&link, &());
         drop(link);
         Ok(())
     }
@@ -209,17 +267,25 @@ fn next_link<R: Eprint + Copy + Drop>(
 }
 
 /// The real dialer: it connects to a Unix socket at a path, or to a port of 127.0.0.1. Where nobody waits there, or
-/// it fails, the system's reason is said on standard error. It tells its count alone.
+/// it fails, the system's reason is said on standard error. It notes and tells at which addresses it made links.
 #[derive(Drop)]
 pub struct SocketDialer<R> {
     runtime: R,
     faults: u64,
+    addresses: Log<Address, ()>,
 }
 
 impl<R> SocketDialer<R> {
     /// A dialer with no fault so far.
-    pub fn make(runtime: R) -> SocketDialer<R> {
-        SocketDialer { runtime, faults: 0 }
+    pub fn make(runtime: R) -> SocketDialer<R>
+        ensures undialled { result.addresses.items ≡ [] }
+        ensures none { result.faults ≡ 0 }
+    {
+        SocketDialer {
+            runtime,
+            faults: 0,
+            addresses: Log::new(),
+        }
     }
 }
 
@@ -230,14 +296,17 @@ impl<
 
     ghost faults = { λ dialer. dialer.faults };
 
-    ghost dialled = { λ _. None };
+    ghost dialled = { λ dialer. Some (firsts dialer.addresses.items) };
 
     fn dial(&mut self, alloc: Global, address: &Address) -> Result<SocketLink<R>, PortFault> {
         let Ok(kept) = address.copy(alloc) else {
             return Err(PortFault::Memory);
         };
         match connect(&self.runtime, address) {
-            Ok(stream) => Ok(SocketLink::make(self.runtime, kept, stream)),
+            Ok(stream) => {
+                self.addresses = self.addresses.and(address, &());
+                Ok(SocketLink::make(self.runtime, kept, stream))
+            }
             Err(reason) => {
                 tell_address_reason(&self.runtime, address, &reason);
                 self.faults = self.faults.saturating_add(1);

@@ -1,4 +1,5 @@
-ghost use Rattle.std.specs.Prelude.{◌≡◌, ◌<◌, ◌≤◌, ◌+◌, ◌^◌, true, false, None, IfOk, OnOk, MatchResult};
+ghost use Rattle.std.specs.Prelude.{◌≡◌, ◌<◌, ◌≤◌, ◌+◌, ◌^◌, [], true, false, Some, IfOk, OnOk, MatchResult};
+ghost use Rattle.tf_ports.specs.Noted.{firsts};
 ghost use Rattle.tf_actions.specs.Gives.{GivesFar, is_sent as goes_far, IsWhole};
 ghost use Rattle.tf_remote.specs.Asking.{AsksWorker, IsLostOnTheWay, RunsOutAsking, IsRequestBack, NamesOrder, TakesReply, TakesServed};
 ghost use Rattle.tf_remote.specs.FarLaws.{far_looks_up, far_reverts};
@@ -9,6 +10,7 @@ use crate::replies::receive_reply;
 use crate::requests::frame_of;
 use std::alloc::Global;
 use tf_actions::{Order, Outcome, Performer};
+use tf_log::Log;
 use tf_ports::Link;
 use tf_states::Failure;
 use tf_tasks::value_of;
@@ -19,21 +21,27 @@ const LAST_ID: u64 = 9_223_372_036_854_775_807;
 
 /// A hand that asks a worker at the other end of its link. An order that needs no worker it answers itself: an
 /// execution for which a symbol is missing, and a revert that runs no program. It keeps nothing of what came
-/// over the link, and doesn't keep its orders.
+/// over the link. It notes each order with the outcome that it gave, and tells its orders.
 #[derive(Drop)]
 pub struct RemoteHand<L> {
     link: L,
     next: u64,
+    done: Log<Order, Outcome>,
     ghost is_id: { next < 2 ^ 63 },
 }
 
 impl<L> RemoteHand<L> {
-    /// A hand that asks over this link. Its requests are counted from 1.
+    /// A hand that asks over this link, and has no order yet. Its requests are counted from 1.
     pub fn make(link: L) -> RemoteHand<L>
         ensures link { result.link ≡ link }
         ensures next { result.next ≡ 1 }
+        ensures fresh { result.done.items ≡ [] }
     {
-        RemoteHand { link, next: 1 }
+        RemoteHand {
+            link,
+            next: 1,
+            done: Log::new(),
+        }
     }
 
     /// The link back.
@@ -53,6 +61,7 @@ impl<L: Link> RemoteHand<L> {
         requires whole { IsWhole order.now }
         ensures gives { IfOk result (λ outcome. GivesFar order.now outcome) }
         ensures kept { goes_far order.now ≡ false → self.new ≡ self.old }
+        ensures unnoted { self.new.done.items ≡ self.old.done.items }
         ensures no_fall { (L.faults self.old.link ≤ L.faults self.new.link)
             × (L.ends self.old.link ≤ L.ends self.new.link) }
         ensures asked { goes_far order.now ≡ true → MatchResult result
@@ -112,7 +121,7 @@ fn ask<L: Link>(
 }
 
 impl<L: Link> Performer for RemoteHand<L> {
-    ghost did = { λ _. None };
+    ghost did = { λ hand. Some (firsts hand.done.items) };
 
     ghost gives = { GivesFar };
 
@@ -125,6 +134,8 @@ impl<L: Link> Performer for RemoteHand<L> {
     ghost reverts_to_nothing = { far_reverts };
 
     fn perform(&mut self, alloc: Global, order: &Order) -> Result<Outcome, Memory> {
-        self.obey(alloc, order)
+        let outcome = self.obey(alloc, order)?;
+        self.done = self.done.and(order, &outcome);
+        Ok(outcome)
     }
 }

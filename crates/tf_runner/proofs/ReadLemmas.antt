@@ -14,8 +14,11 @@ use Rattle.tf_conductor.proofs.HeldLemmas.{second_all}
 use Rattle.tf_report.specs.declared.job_lines.JobLine.{JobLine}
 use Rattle.tf_values.specs.declared.value.Val.{Val}
 use Rattle.tf_values.specs.declared.value.Val.TheVariants as value
-use Rattle.tf_ports.specs.Ports.{Contents}
-use Rattle.tf_runner.specs.Reading.{AreKept, AreReadFrom, HasFileOf, HasLineFile, HaveFiles, IsRead, found_in, has_file_name}
+use Rattle.tf_ports.specs.Ports.{Contents, TellsStill}
+use Rattle.tf_ports.proofs.TellsLemmas.{gives_on, passes_on}
+use Rattle.tf_runner.specs.declared.files.Content.{Content}
+use Rattle.tf_runner.specs.declared.files.Content.TheVariants as content
+use Rattle.tf_runner.specs.Reading.{AreKept, AreReadFrom, IsContent, HasFileOf, HasLineFile, HaveFiles, IsRead, found_in, has_file_name}
 use Rattle.tf_runner.specs.declared.files.JobFile.{JobFile}
 use Rattle.tf_runner.proofs.FreeLemmas.{first_all, more_all}
 
@@ -42,6 +45,15 @@ has_more (x ∷ files) file name is = by (has_file_name name x) (has_more files 
 
 pub read_more : (contents : Contents) (files : List JobFile) (file : JobFile) → AreReadFrom contents files → IsRead contents file → AreReadFrom contents (files ++ file ∷ [])
 read_more contents files file all here = more_all (IsRead contents) files file all here
+
+-- what was read before some call was read
+content_on : (before after : Contents) (name : List ℕ) (found : Content) → TellsStill before after → IsContent before name found → IsContent after name found
+content_on before after name (content.Bytes bytes) still had = (gives_on before after name bytes.items still had.0, had.1)
+content_on before after name content.TooLong still had = passes_on before after name still had
+
+pub read_on : (before after : Contents) (files : List JobFile) → TellsStill before after → AreReadFrom before files → AreReadFrom after files
+read_on before after [] still all = tt
+read_on before after (file ∷ files) still all = (content_on before after file.name file.content still all.0, read_on before after files still all.1)
 
 -- it came, unless memory ran out
 pub pushed_keeps : (old new : List JobFile) (file : JobFile) (pushed : Bool) → new ≡ (if pushed then old ++ file ∷ [] else old) → AreKept old new

@@ -43,9 +43,9 @@ pub fn conduct_command<K: Desk + Send, S: Sources, W: Crew, R: Threads + Wait + 
     requires many { (1 ≤ hands) × (hands ≤ 64) }
 
     // The way that it went: what the board had, which hands were hired and given back, which calls the conductors made, how
-    // each job's run may have ended by the files that the sources tell, what was shown, why the board was halted, what it
+    // each job's run may have ended by the files as the sources then tell them, what was shown, why the board was halted, what it
     // has, and what a crash may leave.
-    ensures conducts { Conducts W.Hand.gives (S.contents sources.old) (W.told crew.old) (W.told crew.new) name.now
+    ensures conducts { Conducts W.Hand.gives (S.contents sources.new) (W.told crew.old) (W.told crew.new) name.now
         word.now hands (K.state desk) (K.state result.0) result.1 }
 
     // A file can't be read, the disk fails, a text can't be said and no hand is hired only where the count of such faults
@@ -75,7 +75,7 @@ fn read_and_conduct<K: Desk + Send, S: Sources, W: Crew, R: Threads + Wait + Syn
     requires many { (1 ≤ hands) × (hands ≤ 64) }
     requires ready { IsReadyBoard board }
     ensures conducts { (name : List ℕ) (entry : K) → IsOpened K.state name (K.state entry) board
-        → Conducts W.Hand.gives (S.contents sources.old) (W.told crew.old) (W.told crew.new) name word.now hands
+        → Conducts W.Hand.gives (S.contents sources.new) (W.told crew.old) (W.told crew.new) name word.now hands
         (K.state entry) (K.state result.0) result.1 }
     ensures causes { (name : List ℕ) (entry : K) → IsOpened K.state name (K.state entry) board
         → HasCauses (K.state entry) (K.state result.0) result.1 }

@@ -2,7 +2,7 @@
 ghost use Rattle.std.specs.Prelude.{◌≡◌, ◌≤◌, true, is_some, IfOk, IsErrOf, OnOk};
 ghost use Rattle.tf_numbers.specs.Numbers.{Rises};
 ghost use Rattle.tf_board.specs.Seeking.{details_at};
-ghost use Rattle.tf_ports.specs.Ports.{Contents};
+ghost use Rattle.tf_ports.specs.Ports.{Contents, TellsStill};
 ghost use Rattle.tf_runner.specs.Reading.{AreKept, AreReadFrom, HasFileOf, HasLineFile, HaveFiles, IsContent, found_in};
 
 use crate::files::{Content, JobFile, find};
@@ -21,11 +21,10 @@ pub(crate) fn read_files<K: Desk, S: Sources>(
     board: &Board<K>,
     sources: &mut S,
 ) -> Result<Vec<JobFile>, SourceFault>
-    ensures read { IfOk result (λ files. AreReadFrom (S.contents sources.old) files.items) }
+    ensures read { IfOk result (λ files. AreReadFrom (S.contents sources.new) files.items) }
     ensures all { IfOk result (λ files. HaveFiles board.now.past files.items) }
     ensures cause { IsErrOf result SourceFault.Read → Rises (S.faults sources.old) (S.faults sources.new) }
     ensures no_fall { S.faults sources.old ≤ S.faults sources.new }
-    ensures same { S.contents sources.new ≡ S.contents sources.old }
 {
     let mut files = Vec::new(alloc);
     let Ok(lines) = board.list() else {
@@ -46,12 +45,11 @@ fn read_job<K: Desk, S: Sources>(
     files: &mut Vec<JobFile>,
 ) -> Result<(), SourceFault>
     requires read { AreReadFrom (S.contents sources.old) files.old.items }
-    ensures read { AreReadFrom (S.contents sources.old) files.new.items }
+    ensures read { AreReadFrom (S.contents sources.new) files.new.items }
     ensures kept { AreKept files.old.items files.new.items }
     ensures has { OnOk result (HasLineFile board.now.past files.new.items line.now) }
     ensures cause { IsErrOf result SourceFault.Read → Rises (S.faults sources.old) (S.faults sources.new) }
     ensures no_fall { S.faults sources.old ≤ S.faults sources.new }
-    ensures same { S.contents sources.new ≡ S.contents sources.old }
 {
     match line.state {
         JobState::Unclaimed => read_details(alloc, board, line.number, sources, files),
@@ -68,12 +66,11 @@ fn read_details<K: Desk, S: Sources>(
     files: &mut Vec<JobFile>,
 ) -> Result<(), SourceFault>
     requires read { AreReadFrom (S.contents sources.old) files.old.items }
-    ensures read { AreReadFrom (S.contents sources.old) files.new.items }
+    ensures read { AreReadFrom (S.contents sources.new) files.new.items }
     ensures kept { AreKept files.old.items files.new.items }
     ensures has { OnOk result (HasFileOf files.new.items (details_at board.now.past number)) }
     ensures cause { IsErrOf result SourceFault.Read → Rises (S.faults sources.old) (S.faults sources.new) }
     ensures no_fall { S.faults sources.old ≤ S.faults sources.new }
-    ensures same { S.contents sources.new ≡ S.contents sources.old }
 {
     match board.details_of(number) {
         Some(Val::Text(name)) => read_file(alloc, name, sources, files),
@@ -89,12 +86,11 @@ fn read_file<S: Sources>(
     files: &mut Vec<JobFile>,
 ) -> Result<(), SourceFault>
     requires read { AreReadFrom (S.contents sources.old) files.old.items }
-    ensures read { AreReadFrom (S.contents sources.old) files.new.items }
+    ensures read { AreReadFrom (S.contents sources.new) files.new.items }
     ensures kept { AreKept files.old.items files.new.items }
     ensures has { OnOk result (is_some (found_in files.new.items name.now) ≡ true) }
     ensures cause { IsErrOf result SourceFault.Read → Rises (S.faults sources.old) (S.faults sources.new) }
     ensures no_fall { S.faults sources.old ≤ S.faults sources.new }
-    ensures same { S.contents sources.new ≡ S.contents sources.old }
 {
     if find(files, name).is_some() {
         return Ok(());
@@ -111,12 +107,12 @@ fn content_of<S: Sources>(
     name: &Text,
     sources: &mut S,
 ) -> Result<Content, SourceFault>
-    ensures content { IfOk result (IsContent (S.contents sources.old) name.now) }
+    ensures content { IfOk result (IsContent (S.contents sources.new) name.now) }
     ensures cause { IsErrOf result SourceFault.Read → Rises (S.faults sources.old) (S.faults sources.new) }
     ensures no_fall { S.faults sources.old ≤ S.faults sources.new }
-    ensures same { S.contents sources.new ≡ S.contents sources.old }
+    ensures still { TellsStill (S.contents sources.old) (S.contents sources.new) }
 {
-    match sources.read_all(alloc, name) {
+    match sources.read_stored(alloc, name) {
         Ok(bytes) => Ok(Content::Bytes(bytes)),
         Err(SourceFault::TooLong) => Ok(Content::TooLong),
         Err(SourceFault::Read) => Err(SourceFault::Read),

@@ -1,7 +1,8 @@
-ghost use Rattle.std.specs.Prelude.{◌≡◌, true, false, None, IfOk, OnErr, ◌≤◌, length};
+ghost use Rattle.std.specs.Prelude.{◌≡◌, [], true, false, Some, IfOk, OnErr, ◌≤◌, length};
 ghost use Rattle.std.specs.List.{list_all};
 ghost use Rattle.tf_actions.specs.Gives.{Gives, GivesNothing, IsWhole};
 ghost use Rattle.tf_flow.specs.declared.atoms.Undo.TheVariants as undo;
+ghost use Rattle.tf_ports.specs.Noted.{firsts};
 ghost use Rattle.tf_tasks.specs.GivesLaws.{gives_looks_up, gives_reverts};
 ghost use Rattle.tf_tasks.specs.Program.{is_program as asks_program, runs_program, IsUnspawned};
 ghost use Rattle.tf_tasks.specs.Run.{has_text, spawns, ObeysOrder, RunsOutOnOrder, RunsTo, RunsAtMost, UndoesTo};
@@ -11,6 +12,7 @@ use crate::runs::{drop_output, run};
 use std::alloc::Global;
 use tf_actions::{Action, Given, Order, Outcome, Pair, Performer};
 use tf_flow::{TaskKind, Undo};
+use tf_log::Log;
 use tf_ports::Spawner;
 use tf_values::{Memory, Text};
 
@@ -25,19 +27,24 @@ pub fn is_program(order: &Order) -> bool
     }
 }
 
-/// The hand that performs orders in this process: built-in tasks itself, and programs by its spawner. It
-/// doesn't keep its orders.
+/// The hand that performs orders in this process: built-in tasks itself, and programs by its spawner. It notes each order
+/// with the outcome that it gave, and tells its orders.
 #[derive(Drop)]
 pub struct LocalHand<S> {
     spawner: S,
+    done: Log<Order, Outcome>,
 }
 
 impl<S> LocalHand<S> {
-    /// A hand that runs programs by this spawner.
+    /// A hand that runs programs by this spawner, and has no order yet.
     pub fn make(spawner: S) -> LocalHand<S>
-        ensures { result.spawner ≡ spawner }
+        ensures spawner { result.spawner ≡ spawner }
+        ensures fresh { result.done.items ≡ [] }
     {
-        LocalHand { spawner }
+        LocalHand {
+            spawner,
+            done: Log::new(),
+        }
     }
 
     /// The spawner back.
@@ -59,6 +66,7 @@ impl<S: Spawner> LocalHand<S> {
         ensures at_most { asks_program order.now ≡ true → OnErr result (RunsOutOnOrder
             (spawns S.answers S.faults S.ran self.old.spawner self.new.spawner) order.now) }
         ensures unrun { runs_program order.now ≡ false → self.new ≡ self.old }
+        ensures unnoted { self.new.done.items ≡ self.old.done.items }
         ensures no_fall { S.faults self.old.spawner ≤ S.faults self.new.spawner }
     {
         if let Given::Found(args) = &order.given {
@@ -94,7 +102,7 @@ fn undo<S: Spawner>(
 }
 
 impl<S: Spawner> Performer for LocalHand<S> {
-    ghost did = { λ _. None };
+    ghost did = { λ hand. Some (firsts hand.done.items) };
 
     ghost gives = { Gives };
 
@@ -107,6 +115,8 @@ impl<S: Spawner> Performer for LocalHand<S> {
     ghost reverts_to_nothing = { gives_reverts };
 
     fn perform(&mut self, alloc: Global, order: &Order) -> Result<Outcome, Memory> {
-        self.obey(alloc, order)
+        let outcome = self.obey(alloc, order)?;
+        self.done = self.done.and(order, &outcome);
+        Ok(outcome)
     }
 }

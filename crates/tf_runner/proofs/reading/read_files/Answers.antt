@@ -19,7 +19,6 @@ loop-line-preserved g c =
     let at : slice_get lines i ≡ Some line = slice_get-get_or lines i line inside ∙ ap (λ (l : JobLine). Some l) (sym c.line-item.is) in
     let next : i + 1 ≡ suc i = omega arith in
     record {
-      same = search rules;
       no_fall = search rules;
       read = search rules;
       lines = subst (λ (n : ℕ). AllByRecursion (HasLineFile past new) (take n lines)) (sym next)

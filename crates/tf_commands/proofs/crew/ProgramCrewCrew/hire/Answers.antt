@@ -1,7 +1,6 @@
 use Rattle.std.proofs.Common.{◌≡◌, ◌+◌, List, sym, ap, ◌∙◌, subst, arith}
 use Rattle.tf_ports.specs.Ports.{addresses_wanted, DialsSome}
 use Rattle.tf_ports.specs.declared.crews.Address.{Address}
-use Rattle.tf_commands.proofs.OrderLemmas.{silent_fresh}
 use Rattle.tf_commands.proofs.WorkLemmas.{dialled_next}
 use Rattle.tf_commands.proofs.crew.ProgramCrewCrew.hire.Goals as goal
 
@@ -14,9 +13,3 @@ returns-then-is_err-clause-dialled_some g c =
       few = omega arith;
       dialled = dialled_next items c.loop-address.address-index c.address-item.result _ _ _ (omega arith) c.address-item.is c.loop-address.invariant.dialled c.in-Ok-dial.ensures.dialled;
     })
-
-pub returns-in-Ok-clause-fresh : goal.returns-in-Ok-clause-fresh
-returns-in-Ok-clause-fresh g c = silent_fresh c.in-Ok.hands.items
-
-pub returns-after-loop-address-clause-fresh : goal.returns-after-loop-address-clause-fresh
-returns-after-loop-address-clause-fresh g c = silent_fresh c.loop-address.hands.items

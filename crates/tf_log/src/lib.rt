@@ -1,0 +1,6 @@
+//! Pairs that a program noted, which only clauses read.
+#![tactic(auto)]
+
+mod log;
+
+pub use log::Log;
