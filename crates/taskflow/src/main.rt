@@ -2,13 +2,16 @@
 //! transition, and keeps the jobs of a board.
 #![tactic(auto)]
 
+mod shipped;
+
+use shipped::obey;
 use std::env::Env;
 use std::fs::{self, File};
 use std::marker::Brand;
 use std::process::ExitCode;
 use std::rt::Files;
 use std::{env, io};
-use tf_commands::{Outside, ProgramCrew, taskflow};
+use tf_commands::{Outside, ProgramCrew};
 use tf_desk::FileDesk;
 use tf_ports::{Folder, SocketDialer, SocketDoor};
 use tf_report::OUT_OF_MEMORY;
@@ -36,14 +39,18 @@ fn main(rt: HostRuntime) -> ExitCode {
         crew: ProgramCrew::make(rt, SocketDialer::make(rt)),
         door: SocketDoor::make(rt),
     };
-    let ended = taskflow(&rt, alloc, &words, outside);
+    let ended = obey(rt, alloc, &words, outside);
     ExitCode::from(ended.status)
 }
 
 /// Takes the numbers of the standard streams, where they are free, until the answer is let go: the system gives a file or
 /// a socket the least free number, and what is said must not go into it. Where it can't be opened they stay as they are.
 fn take_streams<R: Files<File = File>>(rt: &R) -> [Option<File>; 3] {
-    [fs::open(rt, NOTHING).ok(), fs::open(rt, NOTHING).ok(), fs::open(rt, NOTHING).ok()]
+    [
+        fs::open(rt, NOTHING).ok(),
+        fs::open(rt, NOTHING).ok(),
+        fs::open(rt, NOTHING).ok(),
+    ]
 }
 
 /// The words after the program's own name.

@@ -214,18 +214,18 @@ has_flow {wanted} {contents} {found = found} holds = (
 -- the call
 pub call_ends : {K : Type 0} (state : K → DeskState) (gives : Want → Order → Outcome → Type 0) (name : List ℕ) (wanted : Option (List ℕ)) (hands : Want) (call : Call state gives)
     (contents : Contents) (plan : PlanValue) (past : List Entry) → command_of call.words ≡ Some (asked.Resume name wanted hands None)
-    → HoldsAsked wanted contents plan past (book_at (state call.entry) name) → IsUnfailing state gives call → ¬ (Rises (state call.entry).disk_faults (state call.now).disk_faults)
+    → HoldsAsked wanted contents plan past (book_at (state call.entry) name) → IsUnfailing state gives call
     → EndsAsStated contents plan past (file_of (state call.now) name) call.status
-call_ends {K} state gives name wanted hands call contents plan past asks holds unfailing undamaged = by call.behaviour
+call_ends {K} state gives name wanted hands call contents plan past asks holds unfailing = by call.behaviour
   where
     complete : IsRunComplete call.status
-    complete = unfailing (asked.Resume name wanted hands None) asks (call.tells, has_flow holds)
+    complete = call.complete (asked.Resume name wanted hands None) asks (call.tells, has_flow holds) unfailing.unasked (λ work. unfailing.door) unfailing.counts
 
     obeyed_so : (command : Asked) → command ≡ asked.Resume name wanted hands None
         → Obeys state gives (WasAsked (state call.entry) (state call.now)) command call.files call.ports call.later call.entry call.now call.status
         → EndsAsStated contents plan past (file_of (state call.now) name) call.status
     obeyed_so command same obeys =
-        resume_ends call.tells undamaged complete holds
+        resume_ends call.tells unfailing.counts.disk complete holds
         (subst (λ (c : Asked). Obeys state gives (WasAsked (state call.entry) (state call.now)) c call.files call.ports call.later call.entry call.now call.status) same obeys)
 
     by : Behaviour state gives (WasAsked (state call.entry) (state call.now)) call.words call.files call.ports call.later call.entry call.now call.status

@@ -16,3 +16,4 @@ pub mod OwnerLemmas
 pub mod DoneLemmas
 pub mod OrderLemmas
 pub mod CarriedLemmas
+mod JobLemmas

@@ -21,12 +21,15 @@ use Rattle.tf_board.specs.declared.calls.JobCall.TheVariants as call
 use Rattle.tf_words.specs.declared.asked.Asked.{Asked}
 use Rattle.tf_words.specs.declared.asked.Asked.TheVariants as asked
 use Rattle.tf_board.specs.Does.{answer_of, number_of as job_of, Does}
-use Rattle.tf_board.specs.Board.{AreOfBoard, board_in, Holds, Finds}
+use Rattle.tf_board.specs.Board.{AreOfBoard, board_in, Holds, Finds, state_of}
+use Rattle.tf_board.specs.declared.jobs.Standing.{Standing}
+use Rattle.tf_states.specs.Transitions.{job_may}
 use Rattle.tf_board.specs.declared.commands.Command.{Command}
 use Rattle.tf_board.specs.declared.commands.Command.TheVariants as command
 use Rattle.tf_board.specs.declared.commands.JobAction.TheVariants as action
 use Rattle.tf_book.specs.Turns.{IsNextReset}
-use Rattle.tf_commands.specs.Asking.{wanted_by, WasAsked}
+use Rattle.tf_commands.specs.Asking.{counts_of, HasNoFault, IsWork, wanted_by, WasAsked}
+use Rattle.tf_numbers.specs.Numbers.{Rises}
 use Rattle.tf_words.specs.Words.{command_of}
 use Rattle.tf_details.specs.Elements.{Element, plan_of, history, Contents as BookContents, with_entries}
 use Rattle.tf_commands.specs.Books.{Hires, book_in, book_at, HoldsElements, IsShownThen, HasReached, stop_status}
@@ -51,9 +54,15 @@ file_of_command command = None
 abbrev pub IsAbout : List (List ℕ) → List ℕ → Type 0
 IsAbout words name = (command : Asked) × (command_of words ≡ Some command) × (file_of_command command ≡ Some name)
 
+-- how many faults the sources, the crew and the door have met
+pub record PortFaults : Type 0 where
+  pub sources : ℕ
+  pub crew : ℕ
+  pub door : ℕ
+
 module _ {K : Type 0} (state : K → DeskState) (gives : Want → Order → Outcome → Type 0) where
-  -- a call of the program, of which the top call's clause on its behaviour holds: by any words, with any sources, hired
-  -- hands and faults, on a desk that tells what its files have, and whatever its status
+  -- a call of the program, of which the top call's clauses on its behaviour and on completeness hold: by any words, with
+  -- any sources, hired hands and faults, on a desk that tells what its files have, and whatever its status
   pub record Call : Type 0 where
     pub words : List (List ℕ)
     pub files : Contents
@@ -64,6 +73,12 @@ module _ {K : Type 0} (state : K → DeskState) (gives : Want → Order → Outc
     pub status : ℕ
     pub tells : IsTrue (state entry).tells
     pub behaviour : Behaviour state gives (WasAsked (state entry) (state now)) words files ports later entry now status
+    pub faults : PortFaults
+    pub faults_later : PortFaults
+    pub complete : (command : Asked) → command_of words ≡ Some command → MayBeDone command files (state entry)
+        → ¬ (WasAsked (state entry) (state now)) → (IsWork command → ¬ (Rises faults.door faults_later.door))
+        → HasNoFault (counts_of (state entry) faults.sources faults.crew)
+        (counts_of (state now) faults_later.sources faults_later.crew) → IsComplete command status
 
   -- what a call leaves of the file: what it has when the call returns; or, where the words are about it, what a crash
   -- inside the call left; or of a migration's new book, which was unborn, what a crash since its first sync left; or,
@@ -78,11 +93,12 @@ module _ {K : Type 0} (state : K → DeskState) (gives : Want → Order → Outc
         → (state call.now).crashes moment image text → Leaves name call image
     elsewhere : ¬ (IsAbout call.words name) → Leaves name call (file_of (state call.entry) name)
 
-  -- the top call's clause on completeness, where no count of faults rose and no stop was asked for
-  abbrev pub IsUnfailing : Call → Type 0
-  IsUnfailing call =
-      (command : Asked) → command_of call.words ≡ Some command → MayBeDone command call.files (state call.entry)
-      → IsComplete command call.status
+  -- no count of faults rose in it, and no stop was asked for
+  pub record IsUnfailing (call : Call) : Type 0 where
+    pub counts : HasNoFault (counts_of (state call.entry) call.faults.sources call.faults.crew)
+        (counts_of (state call.now) call.faults_later.sources call.faults_later.crew)
+    pub door : ¬ (Rises call.faults.door call.faults_later.door)
+    pub unasked : ¬ (WasAsked (state call.entry) (state call.now))
 
   -- a hand of this number was hired for a call as one of the hands that are wanted: its words ask for these, they were
   -- hired, and so many there are
@@ -203,6 +219,13 @@ pub record IsHandedOn (id first second before after : List ℕ) : Type 0 where
       (command.Apply action.Claim (job_of past id) second ∷
       (later ++ (command.Apply action.Abandon (job_of past id) first
       ∷ (older ++ (command.Apply action.Claim (job_of past id) first ∷ past))))) after
+
+-- ---- the states of jobs
+
+-- a job stands after a command where it stood before it, or a job may go from the one state to the other
+abbrev pub GoesAsItMay : (before after : Standing) → Type 0
+GoesAsItMay before after =
+    (state_of after ≡ state_of before) ⊎ (job_may (state_of before) (state_of after) ≡ true)
 
 -- ---- the orders of hands
 

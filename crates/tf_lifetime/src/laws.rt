@@ -1,7 +1,6 @@
 //! The laws of a life.
 
 ghost use Rattle.std.specs.Prelude.{◌≡◌, ◌∷◌, ◌++◌, false, ℕ, List, Option, Some, None, slice_index_or};
-ghost use Rattle.tf_numbers.specs.Numbers.{Rises};
 ghost use Rattle.tf_flow.specs.Plan.{PlanValue};
 ghost use Rattle.tf_states.specs.declared.record.Entry.{Entry};
 ghost use Rattle.tf_actions.specs.declared.orders.Order.{Order as AnOrder};
@@ -9,7 +8,8 @@ ghost use Rattle.tf_ports.specs.Ports.{gives_by, GivenBack};
 ghost use Rattle.tf_ports.specs.declared.crews.Want.{Want as AWant};
 ghost use Rattle.tf_journal.specs.Format.{Recovered};
 ghost use Rattle.tf_journal.specs.Start.{file_of};
-ghost use Rattle.tf_board.specs.Board.{board_in, Holds};
+ghost use Rattle.tf_board.specs.Board.{AreOfBoard, board_in, Holds, jobs_of, numbered};
+ghost use Rattle.tf_board.specs.declared.jobs.Job.{Job as AJob};
 ghost use Rattle.tf_board.specs.Does.{Does};
 ghost use Rattle.tf_board.specs.declared.calls.BoardRequest.{BoardRequest};
 ghost use Rattle.tf_board.specs.declared.commands.Command.{Command};
@@ -22,7 +22,7 @@ ghost use Rattle.tf_commands.specs.Books.{Promised, PutsBack, book_in, book_at, 
 ghost use Rattle.tf_details.specs.Elements.{Element, history, Contents, with_entries};
 ghost use Rattle.tf_migration.specs.Migrates.{Migrates, old_at};
 ghost use Rattle.tf_commands.specs.declared.running.Request.{Request};
-ghost use Rattle.tf_lifetime.specs.Life.{Call, IsUnfailing, Shown, Life, IsToldBy, EndsAsStated, HoldsBeneath, IsCarriedOver, IsBoardOf, IsDone, HiredIn, AreAllRecorded, WasClaimed, IsHandedOn, AreFirstIfTold};
+ghost use Rattle.tf_lifetime.specs.Life.{Call, IsUnfailing, Shown, Life, IsToldBy, EndsAsStated, HoldsBeneath, IsCarriedOver, IsBoardOf, IsDone, HiredIn, AreAllRecorded, WasClaimed, IsHandedOn, AreFirstIfTold, GoesAsItMay};
 
 use tf_desk::Desk;
 use tf_ports::Crew;
@@ -143,7 +143,6 @@ pub fn ends_as_stated<K: Desk, W: Crew>()
         → command_of call.words ≡ Some (Resume name wanted hands None)
         → HoldsAsked wanted contents plan past (book_at (K.state call.entry) name)
         → IsUnfailing K.state (gives_by W.Hand.gives W.Far.gives) call
-        → ¬ (Rises (K.state call.entry).disk_faults (K.state call.now).disk_faults)
         → EndsAsStated contents plan past (file_of (K.state call.now) name) call.status }
 {}
 
@@ -151,4 +150,12 @@ pub fn ends_as_stated<K: Desk, W: Crew>()
 pub fn histories_are_not_refused()
     ensures { (elements : List Element) (found : Recovered) → HoldsElements elements found
         → (offset : ℕ) (byte : Option ℕ) → ¬ (IsNoBook found offset byte) }
+{}
+
+/// A job goes from one state to another only as a job may: whatever command is the last of those that a board holds, each
+/// job stands after it where it stood before, or goes from UNCLAIMED to CLAIMED, and from there back or to COMPLETE.
+pub fn jobs_go_as_they_may()
+    ensures { (past : List Command) (last : Command) (number : ℕ) (before after : AJob) → AreOfBoard (last ∷ past)
+        → numbered (jobs_of past) number ≡ Some before → numbered (jobs_of (last ∷ past)) number ≡ Some after
+        → GoesAsItMay before.standing after.standing }
 {}
