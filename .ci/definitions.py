@@ -1,5 +1,6 @@
 """Reads the modules of definitions: what each brings in, what it defines, and which definitions one names."""
 import dataclasses
+import itertools
 import pathlib
 import re
 
@@ -21,7 +22,8 @@ class Definition:
     first: int
     lines: list[str]
     is_data: bool
-    group: str = ""
+    group: int | None = None
+    heading: list[str] = dataclasses.field(default_factory=list)
     constructors: list[str] = dataclasses.field(default_factory=list)
 
     @property
@@ -39,18 +41,23 @@ class Definition:
 
 
 class Module:
-    """A file of definitions: what it brings in, by local name, and its definitions in order."""
+    """A file of definitions: what it brings in, by local name, and its definitions in order. `head` is its first comment."""
 
     def __init__(self, path):
         self.path = path
         text = path.read_text()
         self.lines = text.splitlines()
+        self.head = list(itertools.takewhile(is_comment, self.lines))
         self.names, self.aliases = imports(text)
         self.definitions = definitions(self)
         self.by_name = {}
         for one in self.definitions:
             for name in [one.name, *one.constructors]:
                 self.by_name.setdefault(name, one)
+
+    def opening(self, group):
+        """The line that opens a group, with the comment above it; nothing of no group."""
+        return [] if group is None else self.lines[above(self.lines, group) : group + 1]
 
 
 def file_of(dotted):
@@ -74,11 +81,22 @@ def imports(text):
     return names, aliases
 
 
+def is_comment(line):
+    return line.strip().startswith("--")
+
+
+def above(lines, number):
+    """Where the comment begins that stands on a line; a heading is none."""
+    while number and is_comment(lines[number - 1]) and not lines[number - 1].strip().startswith("-- ----"):
+        number -= 1
+    return number
+
+
 def starts(lines):
-    """Where definitions start, at no indent or one step in within a group; and the line that opens the group, if one does."""
-    levels, groups = [0], [""]
+    """Where definitions start, at no indent or one step in within a group; and which line opens the group, if one does."""
+    levels, groups = [0], [None]
     for number, line in enumerate(lines):
-        if not line.strip() or line.strip().startswith("--"):
+        if not line.strip() or is_comment(line):
             continue
         indent = len(line) - len(line.lstrip())
         while indent < levels[-1]:
@@ -88,7 +106,7 @@ def starts(lines):
             continue
         if GROUP.match(line):
             levels.append(indent + 2)
-            groups.append(line)
+            groups.append(number)
         elif OPENS.match(line) and not re.match(r" *pub mod ", line):
             yield number, groups[-1]
 
@@ -96,18 +114,20 @@ def starts(lines):
 def definitions(module):
     lines, found = module.lines, []
     begun = list(starts(lines))
-    for (number, group), (after, _) in zip(begun, [*begun[1:], (len(lines), "")]):
+    ended = len(module.head)
+    for (number, group), (after, _) in zip(begun, [*begun[1:], (len(lines), None)]):
         match = HEAD.match(lines[number])
-        first = number
-        while first and lines[first - 1].strip().startswith("--") and not lines[first - 1].strip().startswith("-- ----"):
-            first -= 1
+        first = above(lines, number)
         end = number + 1
         while end < after and lines[end].strip() and not GROUP.match(lines[end]):
             end += 1
         own = lines[first:end]
-        while own and own[-1].strip().startswith("--"):
+        while own and is_comment(own[-1]):
             own.pop()
         one = Definition(module, match[3], first, own, match[2] == "data", group)
+        begins = first if group is None or group < ended else above(lines, group)
+        one.heading = [line for line in lines[ended:begins] if is_comment(line)]
+        ended = first + len(own)
         if one.is_data:
             one.constructors = [it[1] for it in map(CONSTRUCTOR.match, own[1:]) if it]
         found.append(one)
@@ -161,9 +181,12 @@ class Library:
 
 
 def source_of(dotted, name):
-    """The source that declares what a module of declarations stands for, and the type or the constant."""
+    """The source that declares what a module of declarations stands for, and the type or the constant. A crate of the library
+    has no source here: its name stands for it."""
     crate, _, rest = dotted.removeprefix("Rattle.").partition(".specs.declared.")
     parts = [it for it in rest.split(".") if not it.startswith("The")]
+    if not (CRATES / crate).is_dir():
+        return pathlib.Path(crate), (parts or [name])[0]
     for size in range(len(parts), 0, -1):
         path = CRATES / crate / "src" / ("/".join(parts[:size]) + ".rt")
         if path.exists():

@@ -47,6 +47,10 @@ def names_brought_in(text):
         yield from ((it, number) for it in brought if it not in ("", "*", "self"))
 
 
+def words_of(text):
+    return {*WORD.findall(text), *NAME.findall(text)}
+
+
 def is_named(name, words, text):
     """The name stands in the text: as a word, or, of an operator with places, each of its parts."""
     return all(it in words if re.match(r"\w", it) else it in text for it in name.split("◌"))
@@ -59,7 +63,7 @@ def unnamed_imports(root):
     traits = {name for text in texts.values() for name in TRAIT.findall(text)}
     for file, text in texts.items():
         rest = COMMENT.sub("", USE.sub("", text))
-        words = {"", *WORD.findall(rest), *NAME.findall(rest)}
+        words = {"", *words_of(rest)}
         for name, number in names_brought_in(text):
             if name not in traits and not is_named(name, words, rest):
                 yield f"{file.relative_to(root)}:{number}", name
