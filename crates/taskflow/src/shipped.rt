@@ -1,6 +1,5 @@
 //! The top call over the real files, folder, crew and door.
 
-ghost use Rattle.std.specs.Prelude.{◌≡◌};
 ghost use Rattle.tf_actions.specs.Gives.{Gives, GivesFar};
 ghost use Rattle.tf_commands.specs.Asking.{WasAsked};
 ghost use Rattle.tf_commands.specs.Behaviour.{Behaviour, HiresAsAsked, ports_told};

@@ -1,5 +1,5 @@
 -- A line has one reading: entries of a plan.
-use Rattle.std.proofs.Common.{◌≡◌, ℕ, ◌+◌, ◌<◌, ◌^◌, List, [], ◌∷◌, ◌++◌, length, Bool, true, false, Option, Some, None, refl, sym, ap, subst, ◌∙◌, arith, append_assoc, position}
+use Rattle.std.proofs.Common.{◌≡◌, ℕ, ◌+◌, ◌<◌, List, [], ◌∷◌, ◌++◌, length, Bool, true, false, Some, None, refl, sym, ap, subst, ◌∙◌, arith, position}
 use Rattle.std.specs.Prelude.{codes, ◌||◌, if◌then◌else◌}
 use Rattle.std.specs.Str.{bytes_eq}
 use Rattle.std.specs.Fmt.{decimal}
@@ -26,7 +26,7 @@ use Rattle.tf_audit.proofs.LineLemmas.{line_words}
 use Rattle.tf_audit.proofs.NameLemmas.{atom_found, flow_found, atom_at, flow_at}
 use Rattle.tf_audit.proofs.NumberLemmas.{number_unbroken}
 use Rattle.tf_audit.proofs.OneLemmas.{snoc_one, payload_breaks, payload_one}
-use Rattle.tf_audit.proofs.WordLemmas.{word_one, name_unbroken, atom_word_unbroken, atom_word_named, flow_word_unbroken, flow_word_named, kind_word_unbroken, kind_word_named}
+use Rattle.tf_audit.proofs.WordLemmas.{word_one, name_unbroken, atom_word_unbroken, atom_word_named, flow_word_named, kind_word_named}
 
 -- ---- the words of states and kinds
 

@@ -1,12 +1,12 @@
 -- A line has one reading: failures, payloads and events by their texts.
-use Rattle.std.proofs.Common.{◌≡◌, ℕ, ℤ, ◌<◌, ◌^◌, List, [], ◌∷◌, ◌++◌, length, Bool, true, false, Option, Some, cond, refl, sym, ap, subst, ◌∙◌, arith, append_assoc, position, slice_get}
-use Rattle.std.specs.Prelude.{codes, FitsSigned, option_map, ◌||◌, if◌then◌else◌}
+use Rattle.std.proofs.Common.{◌≡◌, ℕ, ℤ, ◌<◌, ◌^◌, List, [], ◌∷◌, ◌++◌, true, Option, Some, refl, sym, ap, subst, ◌∙◌, arith}
+use Rattle.std.specs.Prelude.{codes, FitsSigned, if◌then◌else◌}
 use Rattle.std.specs.Int.{w32}
 use Rattle.std.specs.Str.{bytes_eq}
 use Rattle.std.specs.Fmt.{decimal, signed_decimal}
 use Rattle.std.proofs.lemmas.Fmt.{decimal_injective, signed_decimal_injective}
 use lib.Signed.{mag}
-use Rattle.tf_values.specs.Text.{is_name, is_text}
+use Rattle.tf_values.specs.Text.{is_text}
 use Rattle.tf_values.specs.Value.{quoted, text_form}
 use Rattle.tf_values.specs.declared.value.Val.{Val}
 use Rattle.tf_values.specs.declared.value.Val.TheVariants as value

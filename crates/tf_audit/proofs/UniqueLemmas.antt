@@ -1,14 +1,12 @@
 -- A log has one verdict.
-use Rattle.std.proofs.Common.{◌≡◌, ◌≢◌, ℕ, ◌+◌, ◌-◌, ◌<◌, ◌≤◌, ◌^◌, List, [], ◌∷◌, ◌++◌, length, filter, Bool, true, cond, Option, Some, None, refl, sym, ap, subst, ◌∙◌, arith, append_assoc, append-nil, length-append}
+use Rattle.std.proofs.Common.{◌≡◌, ℕ, ◌+◌, ◌-◌, ◌<◌, ◌^◌, List, [], ◌∷◌, ◌++◌, length, filter, Bool, true, cond, None, refl, sym, ap, subst, ◌∙◌, arith, append_assoc, append-nil, length-append}
 use Rattle.std.specs.List.{AllByRecursion}
 use Rattle.std.proofs.lemmas.List.Elements.{filter-append}
 use Rattle.tf_flow.specs.Plan.{PlanValue}
 use Rattle.tf_flow.specs.Rules.{first_refusal}
 use Rattle.tf_states.specs.declared.record.Entry.{Entry}
-use Rattle.tf_states.specs.declared.record.What.{What}
 use Rattle.tf_states.specs.declared.state.FlowState.{FlowState}
 use Rattle.tf_actions.specs.Gives.{GivesFar}
-use Rattle.tf_model.specs.Forced.{choice, forced}
 use Rattle.tf_model.specs.History.{snapshot, flow_of}
 use Rattle.tf_model.specs.Scope.{IsGiven, HasOutcomes}
 use Rattle.tf_model.specs.Plan.{Outline, outline_of}

@@ -1,8 +1,8 @@
 -- How the command that serves a board ends.
-use Rattle.std.proofs.Common.{◌≡◌, ◌≢◌, ◌⊎◌, ◌<◌, ◌≤◌, ℕ, ◌+◌, zero, suc, false, List, [], ◌∷◌, ◌++◌, length, map, drop, slice_get, slice_index_or, Option, Some, None, Result, Ok, Err, refl, sym, ap, subst, ◌∙◌, inl, inr, ⊎_elim, arith, option_map}
-use Rattle.std.proofs.lemmas.Option.{slice_get-map, slice_get_within}
+use Rattle.std.proofs.Common.{◌≡◌, ◌≢◌, ◌⊎◌, ◌<◌, ◌≤◌, ℕ, zero, suc, List, [], ◌∷◌, length, map, drop, slice_get, slice_index_or, Option, Some, None, Result, refl, sym, ap, subst, ◌∙◌, inl, inr, ⊎_elim, arith}
+use Rattle.std.proofs.lemmas.Option.{slice_get_within}
 use Rattle.std.proofs.lemmas.List.{length-map}
-use Rattle.std.specs.Prelude.{IfSome, IsTrue, OnOk, unwrap_or}
+use Rattle.std.specs.Prelude.{IfSome, IsTrue, unwrap_or}
 use Rattle.std.specs.List.{All}
 use Rattle.tf_numbers.specs.Numbers.{Rises}
 use Rattle.tf_desk.specs.Crash.{ShowsPrefix}
@@ -12,18 +12,18 @@ use Rattle.tf_desk.proofs.StateLemmas.{on_disk_on, on_disk_told}
 use Rattle.tf_journal.specs.Start.{IsSet, Path, file_of}
 use Rattle.tf_journal.proofs.PathLemmas.{as_read, path_on, path_said, set_on, set_start}
 use Rattle.tf_journal.specs.declared.faults.LoadFault.{LoadFault}
-use Rattle.tf_report.specs.Closing.{ClosesWith, ClosesWithOrStops, disk_fault_text, not_a_book}
-use Rattle.tf_report.specs.declared.statuses.TheConstants.{SUCCEEDED, DISK_FAILED, NO_BOOK, UNHIRED, UNSAID, OUT_OF_MEMORY, FULL}
+use Rattle.tf_report.specs.Closing.{ClosesWith, ClosesWithOrStops}
+use Rattle.tf_report.specs.declared.statuses.TheConstants.{DISK_FAILED, NO_BOOK, UNHIRED, UNSAID, OUT_OF_MEMORY}
 use Rattle.tf_report.proofs.ClosingLemmas.{closes_from, ends_status}
-use Rattle.tf_board.specs.Board.{AreOfBoard, BoardValue, IsOpened, IsUnopened, LeavesBoard, LeavesHeld, board_in, size_of}
-use Rattle.tf_board.specs.Does.{Concludes, Ends, EndsUnmade, HasCauses, HasJobs, HoldsEither, IsBoard, IsBoardComplete, Reached, without_memory, without_disk, no_board}
+use Rattle.tf_board.specs.Board.{AreOfBoard, BoardValue, IsOpened, IsUnopened, LeavesBoard, board_in, size_of}
+use Rattle.tf_board.specs.Does.{Concludes, Ends, EndsUnmade, HasCauses, HoldsEither, IsBoard, IsBoardComplete, Reached, without_memory, without_disk, no_board}
 use Rattle.tf_board.specs.declared.commands.Command.{Command}
 use Rattle.tf_board.proofs.ActLemmas.{reached_back}
 use Rattle.tf_board.proofs.DeskLaws.{KeepsLaws}
 use Rattle.tf_board.proofs.EndLemmas.{causes_so, concludes_none, concludes_said, opened_reached, reached_ends, reached_stops, unopened_ends, unopened_stops}
 use Rattle.tf_ports.specs.Ports.{DoorTold, SeenLink, opened_at}
 use Rattle.tf_ports.specs.declared.crews.Address.{Address}
-use Rattle.tf_shared_board.specs.Shared.{AreAbout, followed_by, HasCause, IsShared, IsUnrecorded, LeavesSome, SharedValue, HaltsFor, halt_status}
+use Rattle.tf_shared_board.specs.Shared.{followed_by, HasCause, IsShared, IsUnrecorded, LeavesSome, SharedValue, HaltsFor, halt_status}
 use Rattle.tf_shared_board.specs.declared.calls.BoardHalt.{BoardHalt}
 use Rattle.tf_shared_board.specs.declared.calls.BoardHalt.TheVariants as halt
 use Rattle.tf_shared_board.specs.declared.calls.Made.{Made}

@@ -1,11 +1,10 @@
 -- The links that a door gives, and those that are given back to it.
-use Rattle.std.proofs.Common.{◌≡◌, ◌≤◌, ℕ, ◌+◌, List, [], ◌∷◌, ◌++◌, length, Option, Some, None, Result, Ok, Err, refl, sym, ap, subst, ◌∙◌, arith, append_assoc, append-nil, length-append}
+use Rattle.std.proofs.Common.{◌≡◌, ◌≤◌, ℕ, ◌+◌, List, [], ◌∷◌, ◌++◌, length, Option, Some, None, Result, Ok, Err, refl, sym, ap, ◌∙◌, arith, append_assoc, append-nil, length-append}
 use Rattle.std.specs.Prelude.{OnOk}
 use Rattle.tf_actions.specs.Gives.{told_with}
-use Rattle.tf_ports.specs.Ports.{DoorTold, SeenLink, gave_link, opened_at, told_with_all, took_back}
-use Rattle.tf_ports.specs.declared.crews.Address.{Address}
+use Rattle.tf_ports.specs.Ports.{DoorTold, SeenLink, gave_link, told_with_all, took_back}
 use Rattle.tf_values.specs.declared.faults.Memory.{Memory}
-use Rattle.tf_board_service.specs.Sessions.{GivesBack, GivesInVain, OpensFor, gave_links, took_links}
+use Rattle.tf_board_service.specs.Sessions.{GivesBack, GivesInVain, gave_links, took_links}
 
 -- ---- lists that are told
 

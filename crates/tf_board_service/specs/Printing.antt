@@ -1,5 +1,5 @@
 -- Which replies can be printed.
-use Rattle.std.specs.Prelude.{◌≤◌, List, length}
+use Rattle.std.specs.Prelude.{◌≤◌, length}
 use Rattle.std.specs.List.{AllByRecursion}
 use Rattle.tf_wire.specs.Limits.{IsWord}
 use Rattle.tf_board_service.specs.Sessions.{MOST_LINES}

@@ -43,6 +43,10 @@ impl Link for WaitingLink {
         let _waited = comes_to(&self.replies, self.wanted);
         self.link.recv(buf)
     }
+
+    fn end(&mut self) {
+        self.link.end();
+    }
 }
 
 /// A link that gives these messages once so many replies were sent.

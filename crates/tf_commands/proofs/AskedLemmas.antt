@@ -2,7 +2,6 @@
 use Rattle.std.proofs.Common.{ℕ, List, [], ◌∷◌, Option, inl, inr, ⊎_elim}
 use Rattle.tf_desk.specs.State.{DeskState}
 use Rattle.tf_flow.specs.Plan.{PlanTree, PlanValue}
-use Rattle.tf_ports.specs.declared.crews.Want.{Want}
 use Rattle.tf_actions.specs.declared.orders.Order.{Order}
 use Rattle.tf_actions.specs.declared.outcomes.Outcome.{Outcome}
 use Rattle.tf_states.specs.declared.record.Entry.{Entry}

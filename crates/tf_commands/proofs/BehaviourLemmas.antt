@@ -1,6 +1,6 @@
 -- The way that a command went, put together from its parts.
-use Rattle.std.proofs.Common.{◌≡◌, ◌≤◌, ℕ, length, List, Option, Some, None, Bool, true, false, refl, sym, inl, inr, subst}
-use Rattle.std.specs.Prelude.{Result, Ok, Err, IfErr, option_and_then, if◌then◌else◌}
+use Rattle.std.proofs.Common.{◌≡◌, ◌≤◌, ℕ, length, List, Option, Some, None, true, false, refl, sym, inl, inr, subst}
+use Rattle.std.specs.Prelude.{Result, Ok, Err, IfErr, option_and_then}
 use Rattle.tf_flow.specs.Plan.{PlanTree, plan_tree}
 use Rattle.tf_ports.specs.Ports.{Contents, GivesBytes, TellsStill, CrewTold}
 use Rattle.tf_ports.proofs.TellsLemmas.{gives_on}

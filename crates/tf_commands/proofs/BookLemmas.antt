@@ -1,5 +1,5 @@
 -- What becomes of a command on a book, put together from how the book was opened and what came then.
-use Rattle.std.proofs.Common.{◌≡◌, ◌⊎◌, ℕ, List, [], Option, Some, refl, ◌∙◌, subst, inl, inr}
+use Rattle.std.proofs.Common.{◌≡◌, ◌⊎◌, ℕ, List, Option, Some, refl, ◌∙◌, subst, inl, inr}
 use Rattle.std.specs.Prelude.{IsTrue}
 use Rattle.tf_desk.specs.ActLaws.{bytes_of-picked}
 use Rattle.tf_desk.specs.State.{DeskState, bytes_now}

@@ -21,7 +21,7 @@ use Rattle.tf_runner.specs.Conducts as conduct
 use Rattle.tf_runner.specs.Conducts.{Conducts, WorksOff, AreManyBack}
 use Rattle.tf_shared_board.specs.Shared.{halt_status}
 use Rattle.tf_commands.specs.Asking.{HasCausesOr, counts_of}
-use Rattle.tf_commands.specs.Books.{Hires, AreAllBack}
+use Rattle.tf_commands.specs.Books.{AreAllBack}
 use Rattle.tf_commands.specs.Behaviour.{HiresAtMost}
 
 -- ---- statuses

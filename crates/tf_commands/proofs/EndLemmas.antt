@@ -10,7 +10,7 @@ use Rattle.tf_states.specs.declared.state.FlowState.{FlowState}
 use Rattle.tf_states.specs.declared.state.FlowState.TheVariants as flow
 use Rattle.tf_model.specs.Plan.{outline_of}
 use Rattle.tf_book.specs.Turns.{is_reached}
-use Rattle.tf_journal.specs.Format.{Recovered, old_format}
+use Rattle.tf_journal.specs.Format.{old_format}
 use Rattle.tf_details.specs.Elements.{Element, Contents, with_entries}
 use Rattle.tf_book.specs.Book.{begun_contents}
 use Rattle.tf_board_service.specs.Sessions as service

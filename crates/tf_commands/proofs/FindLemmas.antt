@@ -6,12 +6,11 @@ use Rattle.std.specs.List.{position_or_len}
 use Rattle.tf_desk.proofs.StateLemmas.{rests_continues, left_stays}
 use Rattle.tf_desk.specs.State.{DeskState, Rests}
 use Rattle.tf_flow.specs.Plan.{PlanValue}
-use Rattle.tf_states.specs.declared.state.FlowState.{FlowState}
 use Rattle.tf_model.specs.History.{flow_of}
 use Rattle.tf_journal.proofs.PathLemmas.{set_start}
 use Rattle.tf_journal.specs.Format.{Recovered, bodies}
 use Rattle.tf_journal.specs.Start.{Untouched, Open}
-use Rattle.tf_details.specs.Elements.{Element, detail, entry as entry_of, details, history, detail_name, has_name, number_among, bodies_of, IsLegalBook}
+use Rattle.tf_details.specs.Elements.{Element, detail, entry as entry_of, details, history, has_name, number_among, bodies_of, IsLegalBook}
 use Rattle.tf_details.specs.Whole.{AreAlike}
 use Rattle.tf_details.proofs.ElementLemmas.{number_below, few_details}
 use Rattle.tf_details.proofs.OnceLemmas.{as_many, named_alike, read_once}

@@ -1,5 +1,5 @@
 -- What a file that holds no flow isn't besides.
-use Rattle.std.proofs.Common.{◌≡◌, ℕ, List, [], ◌∷◌, ◌++◌, length, Some, inl, inr, ◌∙◌, sym, subst, arith}
+use Rattle.std.proofs.Common.{◌≡◌, ℕ, List, [], ◌∷◌, ◌++◌, Some, inl, inr, ◌∙◌, sym, arith}
 use Rattle.tf_flow.specs.Plan.{PlanValue}
 use Rattle.tf_journal.specs.Format.{Recovered, unborn, bodies}
 use Rattle.tf_details.specs.Elements.{Element, element_bytes, bodies_of, plan_of, Contents, IsContents}

@@ -8,7 +8,7 @@ use Rattle.tf_desk.specs.State.{DeskState, Passes, Says, SaysPrefix, nothing_lef
 use Rattle.tf_flow.specs.Plan.{PlanValue}
 use Rattle.tf_states.specs.declared.record.Entry.{Entry}
 use Rattle.tf_model.specs.Plan.{outline_of}
-use Rattle.tf_journal.specs.Format.{Recovered, bodies, LeavesEither}
+use Rattle.tf_journal.specs.Format.{Recovered, LeavesEither}
 use Rattle.tf_journal.specs.declared.title.Title.TheVariants.{Book2 as book_title}
 use Rattle.tf_details.specs.Elements.{IsLegalBook, Contents, with_entries}
 use Rattle.tf_book.specs.Book.{BookValue, outline, bodies_with}

@@ -7,7 +7,6 @@ use Rattle.tf_states.specs.declared.record.Entry.{Entry}
 use Rattle.tf_journal.specs.Format.{Recovered, unborn}
 use Rattle.tf_migration.specs.Migrates as migration
 use Rattle.tf_migration.specs.Migrates.{Migrates, IsUnreadFor, IsUnbegunFor, IsBegunFor, IsBookOfFlow, HasCauses, old_at, new_at, Left}
-use Rattle.tf_numbers.specs.Numbers.{Rises}
 use Rattle.tf_report.specs.Closing.{ClosesWithOrStops}
 use Rattle.tf_report.proofs.ClosingLemmas.{ends_status}
 use Rattle.tf_commands.specs.Asking.{HasEachCause, counts_of}

@@ -1,5 +1,5 @@
 -- The orders that hands were given in a run, by those that they had been given before and after.
-use Rattle.std.proofs.Common.{◌≡◌, ◌≢◌, ◌<◌, ◌≤◌, ◌+◌, ℕ, zero, suc, List, [], ◌∷◌, ◌++◌, length, map, get_or, Option, Some, None, refl, sym, ap, ◌∙◌, subst, append-nil, length-append, arith, inl, inr}
+use Rattle.std.proofs.Common.{◌≡◌, ◌<◌, ◌≤◌, ◌+◌, ℕ, zero, suc, List, [], ◌∷◌, ◌++◌, length, map, get_or, Option, Some, None, refl, sym, ap, ◌∙◌, subst, append-nil, length-append, arith, inl, inr}
 use Rattle.std.specs.Prelude.{◌⊎◌, option_map}
 use Rattle.std.specs.List.{AllByRecursion}
 use Rattle.tf_actions.specs.declared.orders.Order.{Order}
@@ -17,9 +17,9 @@ use Rattle.tf_report.proofs.ClosingLemmas.{closes_status}
 use Rattle.tf_commands.specs.Runs.{SaysHalt, HasSaidHalt}
 use Rattle.tf_engines.specs.declared.engine.How.{How}
 use Rattle.tf_engines.specs.declared.engine.How.TheVariants as how
-use Rattle.tf_engines.specs.Asked.{told_all, HasDone, HasDoneAllButOne, HasDoneBy}
+use Rattle.tf_engines.specs.Asked.{HasDone, HasDoneAllButOne, HasDoneBy}
 use Rattle.tf_engines.specs.Runs.{StandsAs}
-use Rattle.tf_commands.specs.Books.{stop_status, WasGiven, WasGivenIfTold, WereGiven, WereGivenBack, HasStopped}
+use Rattle.tf_commands.specs.Books.{stop_status, WasGivenIfTold, WereGiven, WereGivenBack, HasStopped}
 
 -- ---- no order so far
 

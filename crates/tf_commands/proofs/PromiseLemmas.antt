@@ -23,7 +23,7 @@ use Rattle.tf_book.specs.declared.faults.BookFault.{BookFault}
 use Rattle.tf_book.specs.declared.faults.BookFault.TheVariants as fault
 use Rattle.tf_book.specs.declared.faults.Halt.TheVariants as halt
 use Rattle.tf_commands.specs.Begun.{cause_in, FailsToBegin, Begins, Unbegun}
-use Rattle.tf_commands.specs.Books.{Promised, RunsAnew, overfull, ran, HasStopped, book_in, book_at, HoldsNoFlow, HoldsWith, FindsSince, MayLeave, Lasts, MayRun, Ran, RunShows, closed, stopped, disk_failed}
+use Rattle.tf_commands.specs.Books.{Promised, RunsAnew, overfull, ran, HasStopped, book_in, book_at, HoldsNoFlow, FindsSince, MayLeave, Lasts, MayRun, Ran, RunShows, closed, stopped, disk_failed}
 use Rattle.tf_report.specs.Closing.{disk_fault_text, book_full, ClosesWith}
 use Rattle.tf_report.specs.declared.statuses.TheConstants.{DISK_FAILED, OUT_OF_MEMORY, FULL}
 use Rattle.tf_commands.specs.declared.running.Request.{Request}

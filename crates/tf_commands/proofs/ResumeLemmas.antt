@@ -1,7 +1,6 @@
 -- A run that goes on from the history which a book holds.
 use Rattle.std.proofs.Common.{◌≡◌, ◌⊎◌, ℕ, List, [], true, false, Option, Some, None, refl, sym, ap, subst, inl, inr}
 use Rattle.tf_desk.specs.State.{DeskState}
-use Rattle.tf_ports.specs.declared.crews.Want.{Want}
 use Rattle.tf_actions.specs.declared.orders.Order.{Order}
 use Rattle.tf_actions.specs.declared.outcomes.Outcome.{Outcome}
 use Rattle.tf_states.specs.declared.state.FlowState.{FlowState}

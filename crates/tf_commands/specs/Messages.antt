@@ -41,7 +41,6 @@ use Rattle.tf_commands.specs.declared.reading.Source.{Source}
 use Rattle.tf_desk.specs.Crash.{shown_with, ShowsPrefix}
 use Rattle.tf_desk.specs.State.{DeskState}
 use Rattle.tf_actions.specs.Gives.{told_with}
-use Rattle.tf_ports.specs.declared.crews.Want.{Want}
 use Rattle.tf_ports.specs.declared.crews.Want.TheVariants as want
 use Rattle.tf_actions.specs.declared.orders.Order.{Order}
 use Rattle.tf_actions.specs.declared.outcomes.Outcome.{Outcome}

@@ -20,7 +20,6 @@ use Rattle.tf_book.specs.declared.faults.Halt.TheVariants as halt
 use Rattle.tf_engines.specs.Runs.{IsSession}
 use Rattle.tf_model.specs.Steps.{has_ended}
 use Rattle.tf_ports.specs.Ports.{GivenBack, wanted as number_of, CrewTold}
-use Rattle.tf_ports.specs.declared.crews.Want.{Want}
 use Rattle.tf_commands.specs.Books.{GoesOnBy, WereGiven, HasStopped, Unhired, Promised, IsFile, HoldsAsked, IsPendingSo, MayLeave, PutBack, MayRun, Ran}
 use Rattle.tf_report.specs.Closing.{disk_fault_text, book_full, ClosesWith}
 use Rattle.tf_report.specs.declared.statuses.TheConstants.{UNREAD, DISK_FAILED, UNSAID, UNHIRED, OUT_OF_MEMORY, FULL}

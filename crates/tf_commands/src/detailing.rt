@@ -1,6 +1,6 @@
 //! How the details of a book are listed.
 
-ghost use Rattle.std.specs.Prelude.{◌≡◌, ◌≤◌, ℕ, List};
+ghost use Rattle.std.specs.Prelude.{◌≤◌, ℕ, List};
 ghost use Rattle.tf_book.specs.Shelf.{desk_of};
 ghost use Rattle.tf_commands.specs.Asking.{HasEachCause, counts_of};
 ghost use Rattle.tf_commands.specs.Begun.{IsShelfOf};
@@ -12,7 +12,7 @@ use crate::running::Over;
 use std::alloc::Global;
 use tf_book::Shelf;
 use tf_desk::Desk;
-use tf_report::{OUT_OF_MEMORY, SUCCEEDED, UNHIRED};
+use tf_report::{OUT_OF_MEMORY, SUCCEEDED};
 use tf_values::Text;
 
 /// Opens the book, and says a line of each of its details. Nothing is recorded.

@@ -15,7 +15,6 @@ use crate::running::Over;
 use std::alloc::Global;
 use tf_book::{Book, Detail, Shelf};
 use tf_desk::Desk;
-use tf_report::UNHIRED;
 use tf_states::FlowState;
 use tf_values::{Name, Text};
 

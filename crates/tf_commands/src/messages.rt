@@ -1,7 +1,6 @@
-ghost use Rattle.std.specs.Prelude.{◌≡◌, ◌≤◌, [], ◌∷◌, ◌++◌, OnOk, length};
+ghost use Rattle.std.specs.Prelude.{◌≡◌, ◌≤◌, ◌++◌, OnOk, length};
 ghost use Rattle.std.specs.List.{flat_map};
-ghost use Rattle.tf_numbers.specs.Numbers.{which_below};
-ghost use Rattle.tf_model.specs.Plan.{outline_of, count, is_task};
+ghost use Rattle.tf_model.specs.Plan.{outline_of, count};
 ghost use Rattle.tf_commands.specs.Messages.{limit_word as word_of_limit, checked, summary, tasks_below, spaced, plan_fault_text, file_fault_text, compile_fault_text, scope_fault_text, target_fault_text, reason_text, refusal, no_flow_named, state_forbids, detail_lines};
 
 use tf_accept::Refusal;

@@ -4,7 +4,6 @@ ghost use Rattle.std.specs.Prelude.{◌≡◌, ◌≢◌, ◌≤◌, ◌<◌, �
 ghost use Rattle.std.specs.List.{AllByRecursion};
 ghost use Rattle.tf_states.specs.declared.state.FlowState.{FlowState as AFlowState};
 ghost use Rattle.tf_report.specs.Lines.{report};
-ghost use Rattle.tf_states.specs.declared.record.Entry.{Entry as Record};
 ghost use Rattle.tf_actions.specs.declared.orders.Order.{Order as AnOrder};
 ghost use Rattle.tf_hands.specs.Hands.{orders};
 ghost use Rattle.tf_ports.specs.Ports.{wanted as number_of, IsFresh};

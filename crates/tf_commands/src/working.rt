@@ -1,6 +1,6 @@
 //! A worker: it serves the requests of remote hands that come to an address, one session after the other.
 
-ghost use Rattle.std.specs.Prelude.{◌≡◌, ◌≢◌, ◌≤◌, ◌+◌, ◌++◌, ◌⊎◌, ℕ, OnOk, IfErr};
+ghost use Rattle.std.specs.Prelude.{◌≡◌, ◌≤◌, ◌+◌, ◌++◌, ◌⊎◌, ℕ, OnOk, IfErr};
 ghost use Rattle.tf_numbers.specs.Numbers.{Rises};
 ghost use Rattle.tf_commands.specs.Messages.{end_word, session_line, SaysSession, CutsSession, SaysNext, StopsNext, HasStopCause, HasServeCause, HiresHere, ServesAll, Works};
 ghost use Rattle.tf_commands.specs.Books.{OnlySays};

@@ -1,5 +1,5 @@
 -- A job stands where the last command about it left it, and each goes as a job may.
-use Rattle.std.proofs.Common.{◌≡◌, ◌⊎◌, ◌+◌, ℕ, zero, suc, Bool, true, false, List, [], ◌∷◌, Option, Some, None, refl, sym, ap, ◌∙◌, subst, inl, inr, arith, eqb-true}
+use Rattle.std.proofs.Common.{◌≡◌, ◌+◌, ℕ, zero, suc, Bool, true, false, List, ◌∷◌, Option, Some, None, refl, sym, ap, ◌∙◌, subst, inl, inr, arith, eqb-true}
 use Rattle.std.specs.Prelude.{nat_eq, if◌then◌else◌}
 use Rattle.tf_board.specs.Board.{AreOfBoard, jobs_of, numbered, refused_at, refused_of, standing_after, standing_of, state_of}
 use Rattle.tf_board.specs.declared.commands.Command.{Command}

@@ -21,7 +21,7 @@ use Rattle.tf_details.specs.Elements.{Element, bodies_of, Contents}
 use Rattle.tf_commands.specs.Asking.{want_of, WasAsked}
 use Rattle.tf_words.specs.Words.{command_of}
 use Rattle.tf_commands.specs.Behaviour as behaviour
-use Rattle.tf_commands.specs.Behaviour.{Behaviour, Obeys, FileRead, IsUntouched}
+use Rattle.tf_commands.specs.Behaviour.{Behaviour}
 use Rattle.tf_commands.specs.Books.{NoFileChanges, book_in, book_at, HoldsElements, IsBookOf, Lasts}
 use Rattle.tf_words.specs.declared.asked.Asked.TheVariants as asked
 use Rattle.tf_lifetime.specs.Life.{file_of_command, IsAbout, Call, Leaves, returned, crashed, migrating, elsewhere, IsHired, AreRecorded}

@@ -1,5 +1,4 @@
-ghost use Rattle.std.specs.Prelude.{◌≡◌, ◌≤◌, true, [], Some};
-ghost use Rattle.tf_numbers.specs.Numbers.{Rises};
+ghost use Rattle.std.specs.Prelude.{◌≡◌, true, [], Some};
 ghost use Rattle.tf_ports.specs.MemoryPerformer.{IsPlayed, IsNothingOrLost, IsLost};
 ghost use Rattle.tf_ports.specs.PlayedLaws.{played_looks_up, played_reverts};
 

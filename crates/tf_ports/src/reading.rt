@@ -1,4 +1,4 @@
-ghost use Rattle.std.specs.Prelude.{◌≡◌, ℕ, ◌≤◌, length, IfOk, IsErrOf};
+ghost use Rattle.std.specs.Prelude.{ℕ, ◌≤◌, length, IfOk, IsErrOf};
 ghost use Rattle.tf_numbers.specs.Numbers.{Rises};
 ghost use Rattle.tf_ports.specs.Ports.{Contents, GivesBytes, PassesLimit, TellsStill};
 

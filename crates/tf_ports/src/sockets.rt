@@ -1,4 +1,4 @@
-ghost use Rattle.std.specs.Prelude.{◌≡◌, ◌<◌, [], length, None, Some, IfOk};
+ghost use Rattle.std.specs.Prelude.{◌≡◌, ◌<◌, [], length, None, Some};
 ghost use Rattle.tf_desk.specs.FileDesk.{said_in, SaysSome};
 ghost use Rattle.tf_ports.specs.Noted.{door_told, firsts, seen_by};
 ghost use Rattle.tf_ports.specs.Sockets.{ReadsSome};

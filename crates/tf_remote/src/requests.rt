@@ -1,4 +1,4 @@
-ghost use Rattle.std.specs.Prelude.{◌≡◌, ◌<◌, ◌≤◌, ◌^◌, length, true, IfOk};
+ghost use Rattle.std.specs.Prelude.{◌≡◌, ◌<◌, ◌^◌, true, IfOk};
 ghost use Rattle.tf_actions.specs.Gives.{is_sent, IsWhole};
 ghost use Rattle.tf_remote.specs.Asking.{IsRequestBack};
 ghost use Rattle.tf_remote.specs.Requests.{kind_asked, words_asked, pairs_asked, request_for, frame_for};

@@ -5,7 +5,7 @@ ghost use Rattle.tf_flow.specs.declared.atoms.Undo.TheVariants as undo;
 ghost use Rattle.tf_ports.specs.Noted.{firsts};
 ghost use Rattle.tf_tasks.specs.GivesLaws.{gives_looks_up, gives_reverts};
 ghost use Rattle.tf_tasks.specs.Program.{is_program as asks_program, runs_program, IsUnspawned};
-ghost use Rattle.tf_tasks.specs.Run.{has_text, spawns, ObeysOrder, RunsOutOnOrder, RunsTo, RunsAtMost, UndoesTo};
+ghost use Rattle.tf_tasks.specs.Run.{has_text, spawns, ObeysOrder, RunsOutOnOrder, RunsAtMost, UndoesTo};
 
 use crate::built_ins::value_of;
 use crate::runs::{drop_output, run};

@@ -1,8 +1,8 @@
-ghost use Rattle.std.specs.Prelude.{◌≡◌, ◌++◌, ◌≤◌, ◌*◌, ◌^◌, ◌≤ℤ◌, neg_ℤ, pos, length, codes, IfOk, is_some};
+ghost use Rattle.std.specs.Prelude.{◌≡◌, ◌++◌, ◌≤◌, ◌*◌, ◌^◌, ◌≤ℤ◌, neg_ℤ, pos, length, codes, IfOk};
 ghost use Rattle.std.specs.List.{list_all};
 ghost use Rattle.std.specs.Fmt.{signed_decimal};
 ghost use Rattle.tf_flow.specs.Tree.{first_some};
-ghost use Rattle.tf_actions.specs.Built.{is_integer, has_integers, scalar_amount, scalars_total, amount, total, not_summed, number_of, summed, not_below, not_below_by, compared};
+ghost use Rattle.tf_actions.specs.Built.{is_integer, has_integers, scalar_amount, scalars_total, amount, total, not_summed, summed, not_below, not_below_by, compared};
 
 use itoa::Buffer;
 use std::alloc::Global;

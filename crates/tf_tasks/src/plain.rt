@@ -1,5 +1,4 @@
-ghost use Rattle.std.specs.Prelude.{◌≡◌, ◌++◌, ◌≤◌, length, codes, true, IfOk, if◌then◌else◌};
-ghost use Rattle.tf_values.specs.Text.{is_text};
+ghost use Rattle.std.specs.Prelude.{◌≡◌, ◌++◌, codes, true, IfOk};
 ghost use Rattle.tf_actions.specs.Built.{plain, joined, text_of, raised, demanded};
 
 use std::alloc::Global;

@@ -1,6 +1,6 @@
 -- The numbers of a generated flow and of conductors are within their bounds.
-use Rattle.std.proofs.Common.{◌≡◌, ℕ, ◌≤◌, List, [], ◌∷◌, Bool, true, ◌&&◌, Option, Some, None, nat_le, arith, length, subst, ◌∙◌}
-use Rattle.std.specs.Prelude.{codes, option_map, option_and_then, if◌then◌else◌}
+use Rattle.std.proofs.Common.{◌≡◌, ℕ, ◌≤◌, List, [], ◌∷◌, true, ◌&&◌, Some, nat_le, arith, length, subst, ◌∙◌}
+use Rattle.std.specs.Prelude.{codes, option_map, option_and_then}
 use Rattle.std.specs.Str.Parse.{digits_value}
 use Rattle.tf_numbers.proofs.TruthLemmas.{and_first, and_second}
 use Rattle.tf_words.specs.Words.{hands_in, demo_of, owner_word, conduct_of, IsConduct, IsDemo, command_of}

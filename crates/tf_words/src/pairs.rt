@@ -2,7 +2,7 @@ ghost use Rattle.std.specs.Prelude.{◌≡◌, [], IfOk, OnOk, IfSome, None, Som
 ghost use Rattle.std.specs.List.{All};
 ghost use Rattle.tf_values.specs.Text.{is_text};
 ghost use Rattle.tf_words.specs.Held.{texts_in};
-ghost use Rattle.tf_words.specs.Verbs.{Halves, halves_of as halves, bind_of as bind_in_word, put as put_in, place_of as place_among, sets_behind};
+ghost use Rattle.tf_words.specs.Verbs.{halves_of as halves, bind_of as bind_in_word, put as put_in, place_of as place_among, sets_behind};
 
 use crate::spelled::value_meant;
 use std::alloc::Global;

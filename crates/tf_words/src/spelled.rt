@@ -1,8 +1,8 @@
-ghost use Rattle.std.specs.Prelude.{◌≡◌, [], ◌∷◌, IfOk, Some, None, is_some, option_map, true};
+ghost use Rattle.std.specs.Prelude.{◌≡◌, [], IfOk, Some, None, is_some, true};
 ghost use Rattle.std.specs.List.{list_all};
 ghost use Rattle.tf_values.specs.declared.value.Val.TheVariants as value;
 ghost use Rattle.tf_values.specs.Text.{is_text};
-ghost use Rattle.tf_words.specs.Verbs.{is_digit as digit, is_count as count, is_integer as integer, scalar_spelled, quoting_after as quoting_behind, mark_of as mark_at, in_front, at_end, scalars_from, scalars_spelled, spelled, value_meant as meant};
+ghost use Rattle.tf_words.specs.Verbs.{is_digit as digit, is_count as count, is_integer as integer, scalar_spelled, quoting_after as quoting_behind, mark_of as mark_at, scalars_from, scalars_spelled, spelled, value_meant as meant};
 
 use crate::quotes::is_quoted;
 use std::alloc::Global;

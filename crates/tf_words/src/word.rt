@@ -1,4 +1,4 @@
-ghost use Rattle.std.specs.Prelude.{◌≡◌, true, string_bytes};
+ghost use Rattle.std.specs.Prelude.{◌≡◌, string_bytes};
 ghost use Rattle.tf_words.specs.Verbs.{is_filled as filled, are_filled as all_filled};
 
 use std::convert::AsStr;

@@ -1,24 +1,18 @@
 -- A session goes on from turn to turn, and ends.
-use Rattle.std.proofs.Common.{◌≡◌, ◌≢◌, ℕ, ◌+◌, ◌<◌, ◌≤◌, List, [], ◌∷◌, ◌++◌, length, Option, Some, None, Result, Ok, Err, inl, inr, refl, sym, ap, ◌∙◌, subst, arith, append_assoc, append-nil, length-append}
+use Rattle.std.proofs.Common.{◌≡◌, ℕ, ◌+◌, ◌≤◌, List, [], ◌∷◌, ◌++◌, length, Option, Some, None, inl, inr, refl, sym, ap, ◌∙◌, subst, arith, append_assoc, append-nil, length-append}
 use Rattle.std.specs.List.{AllByRecursion}
-use Rattle.std.specs.Prelude.{MatchResult}
 use Rattle.std.proofs.lemmas.Grind.{flat_map-append}
-use Rattle.std.proofs.lemmas.List.{append_cancel_left}
 use Rattle.tf_numbers.specs.Numbers.{Rises}
-use Rattle.tf_ports.specs.Ports.{sent_with, left_before, SendsPrefix}
+use Rattle.tf_ports.specs.Ports.{sent_with, left_before}
 use Rattle.tf_actions.specs.declared.orders.Order.{Order}
 use Rattle.tf_actions.specs.declared.outcomes.Outcome.{Outcome}
-use Rattle.tf_wire.specs.Stream.{KeptFrames, counted, KeepsStream, IsHere, IsPieceAnswer, IsUnrefused as FeedsOn, IsFrame, framed, joined, SplitsInto, BeginsWithFrame, BeginsWithBadLength}
-use Rattle.tf_wire.specs.declared.faults.WireFault.TheVariants as fault
-use Rattle.tf_wire.proofs.StreamLemmas.{bad_stays, cut_on, short_is_no_frame, short_is_no_bad_length}
+use Rattle.tf_wire.specs.Stream.{KeptFrames, counted, KeepsStream, IsFrame, framed, joined, SplitsInto, BeginsWithBadLength}
 use Rattle.tf_workers.specs.Session.{Exchange, running, reply, dialogue, Seen, MayBeGiven, WorkerSession, Serves, up_to_running}
-use Rattle.tf_workers.specs.Progress.{IsKnown, Feeds, TakesIn, IsAtEnd, RunsOut, HasNothingMore, SoFar, HasAnsweredAll, TakesNothing, Answers, HasComeTo, StopsFor}
+use Rattle.tf_workers.specs.Progress.{IsKnown, SoFar, HasAnsweredAll, TakesNothing, Answers, HasComeTo, StopsFor}
 use Rattle.tf_workers.specs.Progress.HasComeTo.{nothing, begun, performed}
 use Rattle.tf_workers.specs.declared.answering.Stop.TheVariants as stop
-use Rattle.tf_workers.specs.declared.incoming.Incoming.{Incoming}
-use Rattle.tf_workers.specs.declared.serving.ServeEnd.{ServeEnd}
 use Rattle.tf_workers.specs.declared.serving.ServeEnd.TheVariants as end
-use Rattle.tf_workers.proofs.ListLemmas.{running_short, running_more, prefix_of, all_prefix, all_behind, all_more, joined_more, dialogue_more, read_more, did_more, sent_more, prefix_more_sent, whole_prefix, came_more, came_none, did_none, sent_none}
+use Rattle.tf_workers.proofs.ListLemmas.{running_short, running_more, prefix_of, all_prefix, all_behind, all_more, joined_more, dialogue_more, read_more, did_more, sent_more, prefix_more_sent, whole_prefix}
 use Rattle.tf_wire.proofs.KeepingLemmas.{framed_length}
 
 -- ---- counts

@@ -1,4 +1,4 @@
-ghost use Rattle.std.specs.Prelude.{◌≡◌, MatchResult};
+ghost use Rattle.std.specs.Prelude.{MatchResult};
 ghost use Rattle.tf_workers.specs.Progress.{HasAnsweredAll};
 ghost use Rattle.tf_workers.specs.Session.{Seen, seen, Serves};
 

@@ -1,8 +1,8 @@
-use Rattle.std.proofs.Common.{◌≡◌, ◌∙◌, ◌∷◌, ◌++◌, [], List, map, length, ap, refl, sym, arith}
-use Rattle.std.proofs.lemmas.List.{length-map, map-append}
+use Rattle.std.proofs.Common.{◌∙◌, ◌∷◌, [], map, length, ap, refl, sym, arith}
+use Rattle.std.proofs.lemmas.List.{map-append}
 use Rattle.tf_ports.specs.Ports.{seen_link}
 use Rattle.tf_board_service.specs.Sessions.{gave_links}
-use Rattle.tf_board_service.proofs.DoorLemmas.{gave_more, gave_none, vain_back, vain_none}
+use Rattle.tf_board_service.proofs.DoorLemmas.{gave_more, gave_none, vain_none}
 use Rattle.tf_board_service.proofs.commanding.accept_all.Goals as goal
 
 pub loop-taken-init : goal.loop-taken-init

@@ -1,4 +1,4 @@
-use Rattle.std.proofs.Common.{◌≡◌, ◌≢◌, ◌⊎◌, ◌∙◌, ℕ, List, [], ap, subst, inl, inr, refl, map, length, vec_len, arith}
+use Rattle.std.proofs.Common.{◌≡◌, ◌≢◌, ◌⊎◌, ◌∙◌, ℕ, List, [], ap, subst, inl, inr, refl, map, vec_len, arith}
 use Rattle.std.proofs.lemmas.List.{length-map}
 use Rattle.tf_board.proofs.DeskLaws.{KeepsLaws}
 use Rattle.tf_board.proofs.EndLemmas.{concludes_none}

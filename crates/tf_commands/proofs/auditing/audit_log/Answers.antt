@@ -1,4 +1,4 @@
-use Rattle.tf_commands.specs.Messages.{audited, unread_log, long_log, unfinished_log}
+use Rattle.tf_commands.specs.Messages.{audited, unread_log, long_log}
 use Rattle.tf_commands.proofs.auditing.audit_log.Goals as goal
 
 pub returns-in-Ok-clause-audits : goal.returns-in-Ok-clause-audits

@@ -1,6 +1,4 @@
-use Rattle.std.proofs.Common.{◌≡◌, false, ◌∙◌, ap, sym, subst, ⊎_elim}
-use Rattle.std.specs.Prelude.{IsTrue}
-use Rattle.tf_book.specs.Book.{BookValue}
+use Rattle.std.proofs.Common.{◌≡◌, false, ◌∙◌, ⊎_elim}
 use Rattle.tf_commands.proofs.BeginLemmas.{begins_on, failed_unbegun, stays_unbegun, not_halted, start_fails, start_failed}
 use Rattle.tf_commands.proofs.books.begin.Goals as goal
 

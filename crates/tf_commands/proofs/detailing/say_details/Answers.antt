@@ -1,4 +1,4 @@
-use Rattle.std.proofs.Common.{◌≡◌, ℕ, List, ◌++◌, ap, sym, subst, ◌∙◌, ⊎_elim}
+use Rattle.std.proofs.Common.{◌≡◌, ℕ, List, ◌++◌, ap, sym, subst, ◌∙◌}
 use Rattle.tf_book.specs.Book.{listed}
 use Rattle.tf_commands.specs.Books.{Refuses, were_listed, book_at}
 use Rattle.tf_commands.specs.Messages.{detail_lines}

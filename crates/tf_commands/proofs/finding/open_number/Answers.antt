@@ -1,4 +1,4 @@
-use Rattle.std.proofs.Common.{[], subst, sym, arith}
+use Rattle.std.proofs.Common.{[], subst, sym}
 use Rattle.std.specs.Prelude.{IsTrue}
 use Rattle.tf_journal.proofs.OpenLemmas.{untouched_now}
 use Rattle.tf_commands.specs.Books.{unopened_book, book_at}

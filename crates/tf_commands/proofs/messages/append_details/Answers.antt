@@ -1,6 +1,5 @@
-use Rattle.std.proofs.Common.{ap, ◌∙◌, sym, ◌++◌, ◌∷◌, [], List, ℕ, arith, take, length}
+use Rattle.std.proofs.Common.{ap, ◌∙◌, ◌++◌, List, ℕ, arith, take}
 use Rattle.std.proofs.lemmas.List.{append_assoc}
-use Rattle.tf_book.specs.declared.shelf.Detail.{Detail}
 use Rattle.tf_report.specs.Lines.{detail_line}
 use Rattle.tf_commands.specs.Messages.{detail_lines}
 use Rattle.tf_commands.proofs.MessageLemmas.{lines_taken}

@@ -1,4 +1,3 @@
-use Rattle.std.proofs.Common.{arith}
 use Rattle.tf_commands.specs.Books.{unfound_reset}
 use Rattle.tf_commands.proofs.CountLemmas.{untouched_reaches, causes_from}
 use Rattle.tf_commands.proofs.resetting.reset_book.Goals as goal

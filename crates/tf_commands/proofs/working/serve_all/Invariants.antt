@@ -1,5 +1,4 @@
-use Rattle.std.proofs.Common.{◌≡◌, ◌≤◌, List, length, Option}
-use Rattle.tf_actions.specs.declared.orders.Order.{Order}
+use Rattle.std.proofs.Common.{◌≤◌}
 use Rattle.tf_commands.specs.Books.{OnlySays}
 use Rattle.tf_commands.proofs.WorkLemmas.{HasServed}
 use Rattle.tf_commands.proofs.working.serve_all.Given as goal

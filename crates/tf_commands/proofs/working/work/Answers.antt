@@ -1,6 +1,5 @@
-use Rattle.std.proofs.Common.{◌≡◌, List, [], ◌∷◌, ◌++◌, ◌+◌, length, map, vec_len, Option, refl, sym, ap, subst, inr, arith}
+use Rattle.std.proofs.Common.{◌≡◌, ◌+◌, length, map, vec_len, refl, inr, arith}
 use Rattle.std.specs.List.{AllByRecursion}
-use Rattle.tf_actions.specs.declared.orders.Order.{Order}
 use Rattle.tf_ports.specs.Ports.{IsFresh}
 use Rattle.tf_ports.specs.declared.crews.Want.TheVariants as want
 use Rattle.tf_commands.specs.Messages.{unhired, unhired_memory}

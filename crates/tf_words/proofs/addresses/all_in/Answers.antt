@@ -1,6 +1,4 @@
-use Rattle.std.proofs.Common.{◌≡◌, ◌++◌, ◌+◌, ◌-◌, ◌∙◌, ℕ, List, [], ◌∷◌, take, drop, option_map, sym, subst, arith}
-use Rattle.tf_ports.specs.declared.crews.Address.{Address}
-use Rattle.tf_words.specs.Words.{pieces_behind, addresses_in}
+use Rattle.std.proofs.Common.{◌+◌, ◌-◌, ◌∙◌, sym, arith}
 use Rattle.tf_words.proofs.AddressLemmas.{comma_met, byte_met}
 use Rattle.tf_words.proofs.addresses.all_in.Goals.{then-byte-eq44+in_ok-address+in-Some+in_ok-push, else-byte-eq44}
 use Rattle.tf_words.proofs.addresses.all_in.Goals as goal
