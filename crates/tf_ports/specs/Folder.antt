@@ -28,6 +28,6 @@ told_if true sources = Some sources
 told_if false sources = None
 
 -- what a folder tells that noted these: the sources of the world, where all that was read is so
-abbrev pub told_by : {A Y : Type 0} → (List ℕ → Option (List ℕ)) → List (List ℕ × Vec ℕ A) → List (List ℕ × Y)
+abbrev pub folder_told : {A Y : Type 0} → (List ℕ → Option (List ℕ)) → List (List ℕ × Vec ℕ A) → List (List ℕ × Y)
     → Contents
-told_by sources reads long = told_if (are_so sources reads long) sources
+folder_told sources reads long = told_if (are_so sources reads long) sources

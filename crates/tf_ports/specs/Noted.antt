@@ -7,16 +7,16 @@ use Rattle.tf_ports.specs.declared.crews.Address.{Address}
 use Rattle.tf_ports.specs.declared.programs.ProgramRun.{ProgramRun}
 
 -- the first of each pair
-abbrev pub firsts : {X Y : Type 0} → List (X × Y) → List X
-firsts pairs = map (λ one. one.0) pairs
+abbrev pub noted : {X Y : Type 0} → List (X × Y) → List X
+noted pairs = map (λ one. one.0) pairs
 
 -- a program and its arguments
-abbrev pub run_of : List ℕ × List (List ℕ) → ProgramRun
-run_of one = record { program = one.0; args = one.1 }
+abbrev pub program_run : List ℕ × List (List ℕ) → ProgramRun
+program_run one = record { program = one.0; args = one.1 }
 
 -- the programs that were run, with their arguments
-abbrev pub runs_of : List (List ℕ × List (List ℕ)) → List ProgramRun
-runs_of runs = map run_of runs
+abbrev pub program_runs : List (List ℕ × List (List ℕ)) → List ProgramRun
+program_runs runs = map program_run runs
 
 -- what is seen of a link that noted these calls, with so many faults and ends: what it was sent, and nothing of what it
 -- has left
@@ -26,7 +26,7 @@ seen_by calls faults ends = record { left = None; sent = Some (said_in calls); f
 -- what a door tells that noted these addresses, and of these links that it gave and that were given back
 abbrev pub door_told : {A B C L : Type 0} → (L → SeenLink) → List (Address × A) → List (L × B) → List (L × C) → DoorTold
 door_told seen opened given returned = record {
-  opened = Some (firsts opened);
+  opened = Some (noted opened);
   given = Some (map (λ one. seen one.0) given);
   returned = Some (map (λ one. seen one.0) returned);
 }

@@ -1,6 +1,6 @@
 ghost use Rattle.std.specs.Prelude.{◌≡◌, ◌≤◌, [], length, Some, IfOk};
 ghost use Rattle.tf_ports.specs.Remaining.{IsFirstLeft};
-ghost use Rattle.tf_ports.specs.Noted.{runs_of};
+ghost use Rattle.tf_ports.specs.Noted.{program_runs};
 
 use crate::programs::{Done, OUTPUT_LIMIT, Output, SpawnFault, Spawner};
 use std::alloc::Global;
@@ -39,7 +39,7 @@ impl<R: Processes + Eprint + Drop> Spawner for Children<R> {
 
     ghost answers = { λ _ _ _ _. Unit {0} };
 
-    ghost ran = { λ children. Some (runs_of children.runs.items) };
+    ghost ran = { λ children. Some (program_runs children.runs.items) };
 
     fn run(&mut self, alloc: Global, program: &Text, args: &Texts) -> Result<Done, SpawnFault> {
         match run_child(&self.runtime, alloc, program, args) {

@@ -1,6 +1,6 @@
 ghost use Rattle.std.specs.Prelude.{◌≡◌, ◌≢◌, ◌≤◌, [], length, IfOk, IsErrOf};
 ghost use Rattle.tf_ports.specs.Remaining.{IsAllLeft, HasMoreLeft};
-ghost use Rattle.tf_ports.specs.Folder.{told_by};
+ghost use Rattle.tf_ports.specs.Folder.{folder_told};
 ghost use Rattle.tf_ports.specs.Ports.{GivesBytes, PassesLimit, TellsStill};
 ghost use Rattle.tf_numbers.specs.Numbers.{Rises};
 
@@ -45,7 +45,7 @@ impl<R, W: World> Folder<R, W> {
 }
 
 impl<R: Files + Eprint + Drop, W: World + Drop> Sources for Folder<R, W> {
-    ghost contents = { λ folder. told_by W.sources folder.read.items folder.long.items };
+    ghost contents = { λ folder. folder_told W.sources folder.read.items folder.long.items };
 
     ghost faults = { λ folder. folder.faults };
 
@@ -66,14 +66,14 @@ impl<R: Files + Eprint, W: World> Folder<R, W> {
         name: &Text,
         stored: bool,
     ) -> Result<Vec<u8>, SourceFault>
-        ensures whole { IfOk result (λ bytes. GivesBytes (told_by W.sources self.new.read.items self.new.long.items)
+        ensures whole { IfOk result (λ bytes. GivesBytes (folder_told W.sources self.new.read.items self.new.long.items)
             name.now bytes.items) }
         ensures short { IfOk result (λ bytes. length bytes.items ≤ SOURCE_LIMIT) }
         ensures too_long { IsErrOf result SourceFault.TooLong
-            → PassesLimit (told_by W.sources self.new.read.items self.new.long.items) name.now }
+            → PassesLimit (folder_told W.sources self.new.read.items self.new.long.items) name.now }
         ensures cause { IsErrOf result SourceFault.Read → Rises self.old.faults self.new.faults }
-        ensures still { TellsStill (told_by W.sources self.old.read.items self.old.long.items)
-            (told_by W.sources self.new.read.items self.new.long.items) }
+        ensures still { TellsStill (folder_told W.sources self.old.read.items self.old.long.items)
+            (folder_told W.sources self.new.read.items self.new.long.items) }
         ensures no_fall { self.old.faults ≤ self.new.faults }
     {
         match read_file(&self.runtime, alloc, name, stored) {

@@ -1,6 +1,6 @@
 ghost use Rattle.std.specs.Prelude.{◌≡◌, ◌<◌, [], length, None, Some};
 ghost use Rattle.tf_desk.specs.FileDesk.{said_in, SaysSome};
-ghost use Rattle.tf_ports.specs.Noted.{door_told, firsts, seen_by};
+ghost use Rattle.tf_ports.specs.Noted.{door_told, noted, seen_by};
 ghost use Rattle.tf_ports.specs.Sockets.{ReadsSome};
 
 use crate::crews::{Address, PortFault};
@@ -296,7 +296,7 @@ impl<
 
     ghost faults = { λ dialer. dialer.faults };
 
-    ghost dialled = { λ dialer. Some (firsts dialer.addresses.items) };
+    ghost dialled = { λ dialer. Some (noted dialer.addresses.items) };
 
     fn dial(&mut self, alloc: Global, address: &Address) -> Result<SocketLink<R>, PortFault> {
         let Ok(kept) = address.copy(alloc) else {

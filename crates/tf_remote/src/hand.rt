@@ -1,5 +1,5 @@
 ghost use Rattle.std.specs.Prelude.{◌≡◌, ◌<◌, ◌≤◌, ◌+◌, ◌^◌, [], true, false, Some, IfOk, OnOk, MatchResult};
-ghost use Rattle.tf_ports.specs.Noted.{firsts};
+ghost use Rattle.tf_ports.specs.Noted.{noted};
 ghost use Rattle.tf_actions.specs.Gives.{GivesFar, is_sent as goes_far, IsWhole};
 ghost use Rattle.tf_remote.specs.Asking.{AsksWorker, IsLostOnTheWay, RunsOutAsking, IsRequestBack, NamesOrder, TakesReply, TakesServed};
 ghost use Rattle.tf_remote.specs.FarLaws.{far_looks_up, far_reverts};
@@ -121,7 +121,7 @@ fn ask<L: Link>(
 }
 
 impl<L: Link> Performer for RemoteHand<L> {
-    ghost did = { λ hand. Some (firsts hand.done.items) };
+    ghost did = { λ hand. Some (noted hand.done.items) };
 
     ghost gives = { GivesFar };
 

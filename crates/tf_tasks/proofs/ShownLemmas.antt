@@ -1,5 +1,5 @@
 -- The text that shows two integers.
-use Rattle.std.proofs.Common.{◌≡◌, ℤ, ◌≤◌, ◌+◌, ◌++◌, length, true, codes, rules, arith}
+use Rattle.std.proofs.Common.{◌≡◌, ℤ, ◌≤◌, ◌++◌, length, true, codes, rules, arith}
 use Rattle.std.specs.Prelude.{FitsSigned}
 use Rattle.std.specs.Int.{w64}
 use Rattle.std.specs.Fmt.{signed_decimal}

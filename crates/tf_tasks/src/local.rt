@@ -2,7 +2,7 @@ ghost use Rattle.std.specs.Prelude.{◌≡◌, [], true, false, Some, IfOk, OnEr
 ghost use Rattle.std.specs.List.{list_all};
 ghost use Rattle.tf_actions.specs.Gives.{Gives, GivesNothing, IsWhole};
 ghost use Rattle.tf_flow.specs.declared.atoms.Undo.TheVariants as undo;
-ghost use Rattle.tf_ports.specs.Noted.{firsts};
+ghost use Rattle.tf_ports.specs.Noted.{noted};
 ghost use Rattle.tf_tasks.specs.GivesLaws.{gives_looks_up, gives_reverts};
 ghost use Rattle.tf_tasks.specs.Program.{is_program as asks_program, runs_program, IsUnspawned};
 ghost use Rattle.tf_tasks.specs.Run.{has_text, spawns, ObeysOrder, RunsOutOnOrder, RunsAtMost, UndoesTo};
@@ -102,7 +102,7 @@ fn undo<S: Spawner>(
 }
 
 impl<S: Spawner> Performer for LocalHand<S> {
-    ghost did = { λ hand. Some (firsts hand.done.items) };
+    ghost did = { λ hand. Some (noted hand.done.items) };
 
     ghost gives = { Gives };
 
