@@ -45,11 +45,6 @@ none_given whole plan past dids all hand = given_none whole plan past hand (get_
 pub nobody_given : (whole : Type 0) (plan : Outline) (past : List Entry) → WereGiven whole plan past past []
 nobody_given whole plan past = none_given whole plan past [] tt
 
--- one hand more that has no order yet
-pub fresh_more : {P : Type 0} (did : P → Option (List Order)) (hands : List P) (hand : P) → AllByRecursion IsFresh (map did hands) → IsFresh (did hand) → AllByRecursion IsFresh (map did (hands ++ hand ∷ []))
-fresh_more did [] hand all fresh = (fresh, tt)
-fresh_more did (one ∷ hands) hand all fresh = (all.0, fresh_more did hands hand all.1 fresh)
-
 -- ---- the same, said of less
 
 given_where : (whole more : Type 0) (plan : Outline) (before past : List Entry) (hand : ℕ) (did : Option (List Order)) → (more → whole) → WasGivenIfTold whole plan before past hand did

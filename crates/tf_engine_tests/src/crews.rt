@@ -1,4 +1,6 @@
 //! Hands that perform the built-in tasks, and crews of them.
+ghost use Rattle.std.specs.Prelude.{◌≡◌, []};
+
 use std::alloc::Global;
 use std::test::Fail;
 use tf_ports::{MemoryCrew, MemorySpawner};
@@ -7,8 +9,10 @@ use tf_tasks::LocalHand;
 /// A hand that performs the built-in tasks.
 pub(crate) type Hand = LocalHand<MemorySpawner>;
 
-/// A hand of this process.
-pub(crate) fn local_hand(alloc: Global) -> Hand {
+/// A hand of this process, which has no order yet.
+pub(crate) fn local_hand(alloc: Global) -> Hand
+    ensures { result.done.items ≡ [] }
+{
     LocalHand::make(MemorySpawner::make(alloc, Vec::new(alloc), Vec::new(alloc)))
 }
 
