@@ -3,7 +3,7 @@ use Rattle.std.proofs.Common.{◌≡◌, ◌≢◌, ℕ, ◌+◌, ◌<◌, ◌�
 use Rattle.std.specs.Prelude.{◌⊎◌, MatchResult}
 use Rattle.std.proofs.lemmas.Grind.{flat_map-append}
 use Rattle.tf_numbers.specs.Numbers.{Rises}
-use Rattle.tf_ports.specs.Ports.{SeenLink, SendsPrefix, left_before, sent_with}
+use Rattle.tf_ports.specs.Ports.{SeenLink, SendsPrefix, left_before, seen_link, sent_with}
 use Rattle.tf_wire.specs.Stream.{KeptFrames, counted, KeepsStream, framed, joined, SplitsInto}
 use Rattle.tf_wire.proofs.StreamLemmas.{bad_stays, cut_on, short_is_no_frame, short_is_no_bad_length}
 use Rattle.tf_board.specs.declared.commands.Command.{Command}
@@ -486,3 +486,13 @@ module _ (number : ℕ) (past : List Command) where
         is_known = subst (IsKnown kept) (sym free) (short_is_no_frame kept.rest short, short_is_no_bad_length kept.rest short);
         is_place = first;
       }
+
+-- a link that was ended is seen as it was
+pub seen_ended : {L : Type 0} (left sent : L → Option (List ℕ)) (faults ends : L → ℕ) (old new : L) → (left new ≡ left old) × (sent new ≡ sent old) → (faults new ≡ faults old) × (ends new ≡ ends old)
+    → seen_link left sent faults ends new ≡ seen_link left sent faults ends old
+seen_ended left sent faults ends old new same counts =
+    ap (λ (l : Option (List ℕ)). made l (sent new) (faults new) (ends new)) same.0 ∙ ap (λ (s : Option (List ℕ)). made (left old) s (faults new) (ends new)) same.1
+    ∙ ap (λ (n : ℕ). made (left old) (sent old) n (ends new)) counts.0 ∙ ap (λ (n : ℕ). made (left old) (sent old) (faults old) n) counts.1
+  where
+    made : Option (List ℕ) → Option (List ℕ) → ℕ → ℕ → SeenLink
+    made l s f e = record { left = l; sent = s; faults = f; ends = e }

@@ -6,7 +6,7 @@ use Rattle.tf_board_service.specs.Serving.{ServingValue}
 use Rattle.tf_board_service.specs.Turning.{seen_calls, start_past}
 use Rattle.tf_board_service.specs.Turns.{HasAnsweredAll, IsOver}
 use Rattle.tf_board_service.specs.declared.sessions.SessionEnd.{SessionEnd}
-use Rattle.tf_board_service.proofs.SessionLemmas.{over_waited, starts}
+use Rattle.tf_board_service.proofs.SessionLemmas.{over_waited, seen_ended, starts}
 use Rattle.tf_board_service.proofs.serving.serve.Goals as goal
 
 pub frames-init : goal.frames-init
@@ -33,7 +33,10 @@ returns-in-Err g c =
     over_waited n (start_past t) (seen_calls c.go_on.new.server.pass) (seen_calls c.finish.new.server.pass) before mid c.go_on.new.server.points.items f.waited c.in-Err.end (c.in-Err.ensures.goes before c.frames.invariant.all) in
     record {
       idle = f.idle;
-      over = subst (λ (e : SessionEnd). IsOver n (start_past t) (seen_calls c.finish.new.server.pass) before (seen_link g.L.Link.left g.L.Link.sent g.L.Link.faults g.L.Link.ends c.finish.new.server.link) c.finish.new.server.points.items e) (sym f.end)
+      over =
+          subst (λ (s : SeenLink). IsOver n (start_past t) (seen_calls c.finish.new.server.pass) before s c.finish.new.server.points.items c.finish.new.server.end)
+          (sym (seen_ended g.L.Link.left g.L.Link.sent g.L.Link.faults g.L.Link.ends c.finish.new.server.link c.end.new.self c.end.ensures.same c.end.ensures.counts))
+          (subst (λ (e : SessionEnd). IsOver n (start_past t) (seen_calls c.finish.new.server.pass) before (seen_link g.L.Link.left g.L.Link.sent g.L.Link.faults g.L.Link.ends c.finish.new.server.link) c.finish.new.server.points.items e) (sym f.end)
           (subst (λ (s : SeenLink). IsOver n (start_past t) (seen_calls c.finish.new.server.pass) before s c.finish.new.server.points.items c.in-Err.end) (sym (ap (λ (k : g.row.L.Denot). seen_link g.L.Link.left g.L.Link.sent g.L.Link.faults g.L.Link.ends k) f.link))
-          (subst (λ (l : List ℕ). IsOver n (start_past t) (seen_calls c.finish.new.server.pass) before mid l c.in-Err.end) (sym f.points) over));
+          (subst (λ (l : List ℕ). IsOver n (start_past t) (seen_calls c.finish.new.server.pass) before mid l c.in-Err.end) (sym f.points) over)));
     }
