@@ -7,7 +7,6 @@ import os
 import pathlib
 import subprocess
 import sys
-import tempfile
 import threading
 import time
 import unittest
@@ -22,32 +21,9 @@ from taskflow.patterns import graph_flow, linear_flow, unordered_flow
 from verified_taskflow import Broken, Unsupported, test
 from verified_taskflow import names, values
 
-HERE = os.path.dirname(os.path.abspath(__file__))
-sys.path.insert(0, HERE)
+sys.path.insert(0, os.path.dirname(os.path.abspath(__file__)))
+from cases import HERE, PROGRAM, SITE, Case, line  # noqa: E402
 from tasks_of_tests import Add, Fail, Give, Note  # noqa: E402
-
-SITE = str(pathlib.Path(verified_taskflow.__file__).resolve().parent.parent)
-PROGRAM = os.environ["TASKFLOW_PROGRAM"]
-
-
-class Case(unittest.TestCase):
-    def setUp(self):
-        self.folder = tempfile.TemporaryDirectory()
-        self.addCleanup(self.folder.cleanup)
-        before = os.getcwd()
-        os.chdir(self.folder.name)
-        self.addCleanup(os.chdir, before)
-
-    def load(self, flow, **kwargs):
-        return taskflow.engines.load(flow, engine="verified", **kwargs)
-
-    def shown(self, book, *words):
-        done = subprocess.run([PROGRAM, *(words or ("show",)), book], stdout=subprocess.PIPE)
-        return done.stdout.decode().splitlines()
-
-
-def line(name, *items, **kwargs):
-    return linear_flow.Flow(name, **kwargs).add(*items)
 
 
 def make_flow():

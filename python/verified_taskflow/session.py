@@ -83,11 +83,13 @@ class Hands:
     def _work(self):
         for request in iter(self._jobs.get, None):
             try:
-                request.link.answer(request.id, self._perform(request))
-            except OSError:
-                pass
+                outcome = self._perform(request)
             except BaseException as fault:
                 self._abort(fault)
+                continue
+            # The program is gone where the answer can't be sent; the session sees that by itself. An OSError of what was performed isn't that.
+            with contextlib.suppress(OSError):
+                request.link.answer(request.id, outcome)
 
     def take(self, request):
         self._jobs.put(request)

@@ -1,0 +1,61 @@
+"""What goes wrong around a run: hooks and disks that fail, signals, programs that end oddly. `run` returns or raises; it never hangs."""
+
+import os
+import sys
+import threading
+import unittest
+
+from taskflow import states
+from taskflow import task
+from taskflow.patterns import unordered_flow
+
+sys.path.insert(0, os.path.dirname(os.path.abspath(__file__)))
+from cases import Case, line  # noqa: E402
+from tasks_of_tests import Fail, Give  # noqa: E402
+
+PATIENCE = 20
+"""How long, in seconds, a run may take before it counts as one that hangs."""
+
+
+class Limited(Case):
+    def outcome(self, engine, times=1):
+        """What `run` raised in a thread of its own (an exception, or None) the last of so many times. Fails where it hangs."""
+        raised = [None]
+
+        def run():
+            for _ in range(times):
+                try:
+                    engine.run()
+                    raised[0] = None
+                except BaseException as fault:
+                    raised[0] = fault
+        thread = threading.Thread(target=run, daemon=True)
+        thread.start()
+        thread.join(PATIENCE)
+        self.assertFalse(thread.is_alive(), "run() has not returned")
+        return raised[0]
+
+
+class Hanging(Limited):
+    def test_a_hook_that_raises_an_os_error_ends_the_run(self):
+        class Hooked(task.Task):
+            def execute(self):
+                return 1
+
+            def post_execute(self):
+                raise OSError("the hook's disk")
+        for hands in (1, 3):
+            with self.subTest(hands):
+                fault = self.outcome(self.load(unordered_flow.Flow("f").add(Hooked("a")), hands=hands))
+                self.assertEqual("the hook's disk", str(fault))
+
+    def test_failures_that_cannot_be_kept_end_the_run(self):
+        os.mkdir("x.book.failures")
+        for hands in (1, 3):
+            with self.subTest(hands):
+                fault = self.outcome(self.load(line("f%d" % hands, Fail("a")), book="x.book", hands=hands))
+                self.assertIsInstance(fault, OSError)
+
+
+if __name__ == "__main__":
+    unittest.main()
