@@ -83,7 +83,10 @@ class Relays:
         text = reply["result"]
         if text.startswith("failure "):
             return failure.Failure.from_dict(json.loads(text[8:]))
-        return self._texts.value_of(text)[0]
+        try:
+            return self._texts.value_of(text)[0]
+        except ValueError:
+            return failure.Failure()
 
 
 def _text_of(fault):

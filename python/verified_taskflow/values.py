@@ -81,7 +81,7 @@ class Texts:
     """Makes texts of an engine's values, and values of its texts.
 
     `kept` tells whether the texts are for a book that outlives the process: if they aren't, a value that is no JSON is kept in
-    this object, and its text is its number. `pickled` tells whether such a value may be pickled."""
+    this object, and its text is its number. `pickled` tells whether such a value may be pickled, and a pickled one read."""
 
     def __init__(self, kept, pickled):
         self._kept = kept
@@ -124,7 +124,8 @@ class Texts:
         return _marked("object", number, places)
 
     def value_of(self, text):
-        """The value of a text, and the places of its symbols (a dict, or None). Raises ValueError where it is none of ours."""
+        """The value of a text, and the places of its symbols (a dict, or None). Raises ValueError where it is none of ours, and where
+        it is pickled though that wasn't asked for: who sends a pickle has code of its own run."""
         mark, _, body = text.partition(" ")
         if mark not in ("json", "pickle", "object"):
             raise ValueError("no text of a value: %.60r" % text)
@@ -133,6 +134,8 @@ class Texts:
         if mark == "json":
             return unpack(items[0]), places
         if mark == "pickle":
+            if not self._pickled:
+                raise ValueError("a pickled value is read with pickle=True (of a worker, --pickle) alone: %.60r" % text)
             return pickle.loads(base64.b64decode(items[0])), places
         if items[0] not in self._objects:
             raise ValueError("the object %d was of a process that is gone" % items[0])
