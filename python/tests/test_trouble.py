@@ -3,7 +3,9 @@
 import os
 import sys
 import threading
+import time
 import unittest
+import unittest.mock
 
 from taskflow import states
 from taskflow import task
@@ -11,7 +13,9 @@ from taskflow.patterns import unordered_flow
 
 sys.path.insert(0, os.path.dirname(os.path.abspath(__file__)))
 from cases import Case, line  # noqa: E402
-from tasks_of_tests import Fail, Give  # noqa: E402
+from tasks_of_tests import Fail, Note  # noqa: E402
+
+from verified_taskflow import program  # noqa: E402
 
 PATIENCE = 20
 """How long, in seconds, a run may take before it counts as one that hangs."""
@@ -55,6 +59,23 @@ class Hanging(Limited):
             with self.subTest(hands):
                 fault = self.outcome(self.load(line("f%d" % hands, Fail("a")), book="x.book", hands=hands))
                 self.assertIsInstance(fault, OSError)
+
+
+class Suspending(Limited):
+    def test_a_suspension_before_the_first_line_suspends(self):
+        def start(*words):
+            process = started(*words)
+            while not any(text.endswith("task a RUNNING") for text in self.shown(engine._place.book, "show")):
+                time.sleep(0.01)
+            engine.suspend()
+            return process
+        first, second = Note("a"), Note("b")
+        engine, started = self.load(line("f", first, second)), program.start
+        with unittest.mock.patch.object(program, "start", start):
+            self.assertIsNone(self.outcome(engine))
+        self.assertEqual((states.SUSPENDED, []), (engine.storage.get_flow_state(), second.calls))
+        self.assertIsNone(self.outcome(engine))
+        self.assertEqual((states.SUCCESS, 1, 1), (engine.storage.get_flow_state(), len(first.calls), len(second.calls)))
 
 
 if __name__ == "__main__":

@@ -343,6 +343,9 @@ class VerifiedEngine(base.Engine):
         if session.status in program.ENDS:
             return
         if session.stops and session.status < 0:
+            # `suspend` left a flow alone that no line had called RUNNING yet.
+            if self.storage.get_flow_state() == states.RUNNING:
+                self._change_state(states.SUSPENDING)
             self._change_state(states.SUSPENDED)
             return
         fault = program.fault_of(self._plan.root.name, session.status, session.said, session.errors)
