@@ -298,11 +298,34 @@ class VerifiedEngine(base.Engine):
     def _run_sessions(self):
         for wait in program.WAITS:
             session = yield from self._run_session()
-            if session.status != program.DISK_FAULT or session.seen > session.began:
+            if not self._runs_again(session, wait):
                 break
-            time.sleep(wait)
         self._end(session)
-        yield self.storage.get_flow_state()
+        if session.status in program.ENDS and session.seen == session.began:
+            yield from self._run_elsewhere()
+        else:
+            yield self.storage.get_flow_state()
+
+    def _runs_again(self, session, wait):
+        """Whether a further session follows one that did nothing: another program had the book, which is waited for (seconds), or began
+        this flow since it was looked at."""
+        if session.status == program.DISK_FAULT and session.seen == session.began:
+            time.sleep(wait)
+            return True
+        if session.status == program.FORBIDDEN and not self._place.begun:
+            self._look()
+            return self._place.begun
+        return False
+
+    def _run_elsewhere(self):
+        """The end of a run in which the program had nothing to do: another engine ended the flow in the book meanwhile."""
+        self._look()
+        held, self._place.held = self._place.held, []
+        self.catch_up(held)
+        if self._place.ended:
+            yield from self._run_ended()
+        else:
+            yield self.storage.get_flow_state()
 
     def _run_session(self):
         place = self._place
@@ -366,27 +389,46 @@ class VerifiedEngine(base.Engine):
             failure.Failure.reraise_if_any(found)
 
     def _look(self):
-        """Takes what the book has and no session said: all of it where this process begins, silently, and else what the program
-        recorded last before it ended."""
+        """Takes what the book has and no session said: all of it where this process begins or another one ran the flow, and else what
+        the program recorded last before it ended, which is held until the flow goes on."""
         place = self._place
         place.unsure = False
-        if not os.path.exists(place.book) or not os.path.getsize(place.book):
+        lines = self._shown()
+        if not lines:
             return
-        status, lines, errors = program.ask([self._program, "show", "--", place.book, self._plan.root.label])
-        if status == program.FORBIDDEN:
-            return
-        if status != program.SUCCESS:
-            raise program.fault_of(self._plan.root.name, status, lines[-1] if lines else "", errors)
-        self._refuse_other_atoms(lines)
-        new = [line for line in (Line(text) for text in lines if text[:1].isdigit()) if line.number > place.seen]
-        if place.begun:
+        new = [line for line in _entries(lines) if line.number > place.seen]
+        if place.begun and not any(line.kind == "flow" for line in new):
             place.held += new
         else:
-            for line in new:
-                self._recorder.take(line, tells=False)
+            held, place.held = place.held, []
+            self.catch_up(held + new)
         place.begun = True
         place.ended = any(text.startswith("state ") and text.split(" ")[2] in (states.SUCCESS, states.FAILURE) for text in lines)
         place.seen = new[-1].number if new else place.seen
+
+    def _shown(self):
+        """What the program shows of this flow in the book (a list of str), with nothing where the flow isn't there. Raises
+        StorageFailure where the book can't be read, and InvalidState where it has another flow of this name."""
+        place = self._place
+        if not os.path.exists(place.book) or not os.path.getsize(place.book):
+            return []
+        status, lines, errors = program.ask([self._program, "show", "--", place.book, self._plan.root.label])
+        if status == program.FORBIDDEN:
+            return []
+        if status != program.SUCCESS:
+            raise program.fault_of(self._plan.root.name, status, lines[-1] if lines else "", errors)
+        self._refuse_other_atoms(lines)
+        return lines
+
+    def catch_up(self, lines):
+        """Takes lines that no session of this engine said. Listeners hear of the atoms where this engine ran the flow before, as the
+        lines may be of its own run; the states of the flow are silent, since they are those of several runs."""
+        for line in lines:
+            self._recorder.take(line, tells=self._place.begun and line.kind != "flow")
+
+    def missed(self, seen, number):
+        """The lines of the book's entries behind `seen` and before `number` (both int)."""
+        return [line for line in _entries(self._shown()) if seen < line.number < number]
 
     def _refuse_other_atoms(self, lines):
         theirs = [text.split(" ", 2)[1] for text in lines if text.startswith("atom ")]
@@ -509,6 +551,11 @@ class VerifiedEngine(base.Engine):
 
 
 _SUCCESS = b'"result":%b,"state":"SUCCESS"'
+
+
+def _entries(lines):
+    """The lines that are entries, among those that the program shows."""
+    return [Line(text) for text in lines if text[:1].isdigit()]
 
 
 class _InBook:

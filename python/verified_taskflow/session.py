@@ -104,7 +104,8 @@ class Hands:
 
 class Session:
     """One run of the program. `host` performs and takes lines: `perform(request)` gives an outcome, `is_hidden(label)` tells what is
-    performed in the thread of the session, `take(line)` takes a line.
+    performed in the thread of the session, `take(line)` takes a line, `missed(seen, number)` gives the lines of another run's entries
+    between two numbers, and `catch_up(lines)` takes such.
 
     `seen` is the number of the last entry that was said; `held` are lines of entries that the program recorded after it was
     asked to stop: they are taken when the flow goes on."""
@@ -238,11 +239,18 @@ class Session:
         for text in whole:
             if text[:1].isdigit():
                 line = Line(text.decode())
+                if self.seen == self.began and line.number > self.seen + 1:
+                    self._catch_up(line.number)
                 self.seen = line.number
                 self._lines.append(line)
             else:
                 self.said = text.decode()
         return True
+
+    def _catch_up(self, number):
+        """Takes the entries before the first one of this run: another run recorded them while this one waited for the book."""
+        held, self.held = self.held, []
+        self._host.catch_up(held + self._host.missed(self.seen, number))
 
     def _read_request(self, link):
         try:

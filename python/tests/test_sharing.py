@@ -1,0 +1,94 @@
+"""Engines that share a book, or a flow detail: what another one did is never lost, nor done again."""
+
+import os
+import sys
+import unittest
+
+from taskflow import states
+from taskflow import task
+
+sys.path.insert(0, os.path.dirname(os.path.abspath(__file__)))
+from cases import Case, line  # noqa: E402
+from tasks_of_tests import Give  # noqa: E402
+
+
+class Sharing(Case):
+    """One engine looks at the book at some moment of another one's run, and runs behind it."""
+
+    def setUp(self):
+        super().setUp()
+        self.begun = []
+
+    def flow(self, at=None, does=None):
+        """A flow of four tasks that give their names; the one of the name `at` calls `does` first."""
+        begun = self.begun
+
+        class Step(task.Task):
+            def execute(self):
+                begun.append(self.name)
+                if self.name == at:
+                    does()
+                return self.name
+        return line("f", *[Step(name, provides="of-" + name) for name in "abcd"])
+
+    def looked(self):
+        engine = self.load(self.flow(), book="x.book")
+        engine.compile()
+        engine.prepare()
+        self.said = []
+        engine.notifier.register("*", lambda state, details: self.said.append(state))
+        return engine
+
+    def check(self, engine):
+        engine.run()
+        self.assertEqual({"of-" + name: name for name in "abcd"}, engine.storage.fetch_all())
+        self.assertEqual((states.SUCCESS, ["a", "b", "c", "d"]), (engine.storage.get_flow_state(), self.begun))
+        self.assertEqual([states.RUNNING, states.SUCCESS], self.said)
+
+    def test_the_other_begins_behind_the_look_and_ends(self):
+        second = self.looked()
+        self.load(self.flow(), book="x.book").run()
+        self.check(second)
+
+    def test_the_other_ends_behind_the_look(self):
+        found = []
+        self.load(self.flow("b", lambda: found.append(self.looked())), book="x.book").run()
+        self.check(found[0])
+
+    def test_the_other_is_suspended_behind_the_look(self):
+        found = []
+        first = self.load(self.flow("b", lambda: found.append(self.looked())), book="x.book")
+        steps = first.run_iter()
+        for state in steps:
+            if state == states.WAITING and "c" in self.begun:
+                first.suspend()
+        self.assertEqual(states.SUSPENDED, first.storage.get_flow_state())
+        self.check(found[0])
+
+    def test_another_goes_on_with_what_was_suspended(self):
+        first = self.load(self.flow("b", lambda: first.suspend()), book="x.book")
+        first.run()
+        self.assertEqual(states.SUSPENDED, first.storage.get_flow_state())
+        second = self.load(self.flow("c", lambda: second.suspend()), book="x.book")
+        second.run()
+        self.said = []
+        first.notifier.register("*", lambda state, details: self.said.append(state))
+        self.check(first)
+
+    def test_another_reverts_behind_the_look(self):
+        class Fail(task.Task):
+            def execute(self):
+                found.append(case.load(flow, book="x.book"))
+                found[-1].compile()
+                found[-1].prepare()
+                raise ValueError("no")
+        case, found, flow = self, [], line("f", Give("a", provides="x"), Fail("b"))
+        with self.assertRaises(ValueError):
+            self.load(flow, book="x.book").run()
+        with self.assertRaisesRegex(Exception, "no"):
+            found[0].run()
+        self.assertEqual((states.REVERTED, 1), (found[0].storage.get_flow_state(), len(found)))
+
+
+if __name__ == "__main__":
+    unittest.main()
