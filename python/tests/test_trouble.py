@@ -1,6 +1,9 @@
 """What goes wrong around a run: hooks and disks that fail, signals, programs that end oddly. `run` returns or raises; it never hangs."""
 
 import os
+import pathlib
+import signal
+import subprocess
 import sys
 import threading
 import time
@@ -12,7 +15,7 @@ from taskflow import task
 from taskflow.patterns import unordered_flow
 
 sys.path.insert(0, os.path.dirname(os.path.abspath(__file__)))
-from cases import Case, line  # noqa: E402
+from cases import HERE, Case, line  # noqa: E402
 from tasks_of_tests import Fail, Note  # noqa: E402
 
 from verified_taskflow import program  # noqa: E402
@@ -76,6 +79,38 @@ class Suspending(Limited):
         self.assertEqual((states.SUSPENDED, []), (engine.storage.get_flow_state(), second.calls))
         self.assertIsNone(self.outcome(engine))
         self.assertEqual((states.SUCCESS, 1, 1), (engine.storage.get_flow_state(), len(first.calls), len(second.calls)))
+
+
+class Signals(Case):
+    def test_a_signal_to_the_group_that_the_user_handles_ends_nothing(self):
+        text = ("import os, signal, sys, time; sys.path.insert(0, %r)\n"
+                "import verified_taskflow, taskflow.engines\n"
+                "from taskflow import task\n"
+                "from taskflow.patterns import linear_flow\n"
+                "heard, begun = [], []\n"
+                "class Kill(task.Task):\n"
+                "    def execute(self):\n"
+                "        begun.append(self.name)\n"
+                "        os.killpg(0, getattr(signal, self.name))\n"
+                "        time.sleep(0.05)\n"
+                "names = ('SIGINT', 'SIGTERM', 'SIGHUP')\n"
+                "for name in names:\n"
+                "    signal.signal(getattr(signal, name), lambda number, frame: heard.append(signal.Signals(number).name))\n"
+                "flow = linear_flow.Flow('f').add(*map(Kill, names))\n"
+                "taskflow.engines.load(flow, engine='verified', book=sys.argv[1] or None, hands=int(sys.argv[2])).run()\n"
+                "assert heard == begun == list(names), (heard, begun)\n" % HERE)
+        for book in ("", "x.book"):
+            for hands in ("1", "3"):
+                with self.subTest(book=book, hands=hands):
+                    done = subprocess.run([sys.executable, "-c", text, book and book + hands, hands], start_new_session=True,
+                                          stderr=subprocess.PIPE, timeout=PATIENCE)
+                    self.assertEqual((0, ""), (done.returncode, done.stderr.decode()))
+
+    def test_a_signal_to_the_group_ends_no_question_to_the_program(self):
+        pathlib.Path("program").write_text("#!/bin/sh\nkill -INT $$\nkill -TERM $$\necho asked\n")
+        os.chmod("program", 0o700)
+        self.assertEqual((0, ["asked"], ""), program.ask([os.path.abspath("program")]))
+        self.assertEqual(set(), signal.pthread_sigmask(signal.SIG_BLOCK, ()))
 
 
 if __name__ == "__main__":

@@ -1,5 +1,6 @@
 """The program `taskflow`: where it is, how it is started, and what its statuses mean."""
 
+import contextlib
 import ctypes
 import os
 import shutil
@@ -36,9 +37,21 @@ def find(given=None):
     raise Broken("there is no program taskflow: install it, or name it by program=.. or by %s" % VARIABLE)
 
 
+@contextlib.contextmanager
+def _deaf():
+    """While this holds, a process that is started never hears the signals by which a terminal or a service manager stops a whole group:
+    what follows from them is for the user's process to say, which may handle them."""
+    before = signal.pthread_sigmask(signal.SIG_BLOCK, (signal.SIGINT, signal.SIGTERM, signal.SIGHUP))
+    try:
+        yield
+    finally:
+        signal.pthread_sigmask(signal.SIG_SETMASK, before)
+
+
 def start(words, errors, keep):
     """Starts the program with these words (a list of str). Its standard error goes to the file `errors`, and it inherits the file
-    descriptors `keep`. It is killed when the thread that started it ends, so that it never outlives this process."""
+    descriptors `keep`. It is killed when the thread that started it ends, so that it never outlives this process, and hears no signal that
+    asks it to end."""
     parent = os.getpid()
 
     def die_with_parent():
@@ -46,15 +59,18 @@ def start(words, errors, keep):
         if os.getppid() != parent:
             os._exit(1)
 
-    with open(errors, "wb") as file:
+    with open(errors, "wb") as file, _deaf():
         return subprocess.Popen(words, stdin=subprocess.DEVNULL, stdout=subprocess.PIPE, stderr=file, pass_fds=keep,
                                 preexec_fn=die_with_parent, bufsize=0)
 
 
 def ask(words):
     """Runs the program to its end, and gives its status and the lines (list of str) that it said."""
-    done = subprocess.run(words, stdin=subprocess.DEVNULL, stdout=subprocess.PIPE, stderr=subprocess.PIPE)
-    return done.returncode, done.stdout.decode().splitlines(), done.stderr.decode("utf-8", "replace")
+    with _deaf():
+        process = subprocess.Popen(words, stdin=subprocess.DEVNULL, stdout=subprocess.PIPE, stderr=subprocess.PIPE)
+    with process:
+        said, errors = process.communicate()
+    return process.returncode, said.decode().splitlines(), errors.decode("utf-8", "replace")
 
 
 class Holder:
