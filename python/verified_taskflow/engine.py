@@ -288,7 +288,7 @@ class VerifiedEngine(base.Engine):
 
     def _run_program(self):
         self._place.stop.clear()
-        self._relays = relaying.Relays(self._workers, self._place.texts) if self._workers else None
+        self._relays = relaying.Relays(self._workers, _truth(self._options.get("pickle"))) if self._workers else None
         try:
             yield from self._run_sessions()
         finally:

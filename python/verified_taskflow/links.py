@@ -7,6 +7,13 @@ import socket
 LIMIT = 67_108_864
 """The most bytes of a frame's JSON."""
 
+TEXT_LIMIT = 8_388_608
+"""The most bytes of a value's text in a frame."""
+
+
+class TooLong(Exception):
+    """A message that is longer than a frame may be."""
+
 
 def dial(address):
     """A link to who listens at an address. Raises OSError where nobody does, ValueError where it is no address."""
@@ -42,8 +49,10 @@ def listen(address):
 
 
 def say(link, message):
-    """Sends a message (a dict)."""
+    """Sends a message (a dict). Raises TooLong, and sends nothing, where it is longer than a frame may be."""
     body = json.dumps(message, ensure_ascii=False, separators=(",", ":"), sort_keys=True).encode()
+    if len(body) > LIMIT:
+        raise TooLong("a message of %d bytes, above %d" % (len(body), LIMIT))
     link.sendall(len(body).to_bytes(4, "big") + body)
 
 

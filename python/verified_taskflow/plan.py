@@ -9,7 +9,7 @@ from taskflow.patterns import graph_flow, linear_flow, unordered_flow
 
 from .names import Names
 from .refusals import Unsupported
-from .values import places_of
+from .values import is_short, places_of
 
 ATOM_LIMIT, FLOW_LIMIT, NESTING_LIMIT, LINK_LIMIT = 1_000, 500, 16, 4_000
 _KINDS = ((linear_flow.Flow, "linear"), (unordered_flow.Flow, "unordered"), (graph_flow.Flow, "graph"))
@@ -233,11 +233,12 @@ def edges_of(atom):
 
 
 def is_said(edge, edges, atom):
-    """Whether the file can say this decider: the only one of the atom, a test for a plain value of a task's result."""
+    """Whether the file can say this decider: the only one of the atom, a test for a short plain value of a task's result."""
     from .deciders import test
     decider = edge.decider
     return (type(decider) is test and set(decider.wanted) == {"equals"} and len(edges) == 1 and edge.target is atom
-            and type(edge.source) is Atom and type(decider.wanted["equals"]) in (bool, int, str, type(None)))
+            and type(edge.source) is Atom and type(decider.wanted["equals"]) in (bool, int, str, type(None))
+            and is_short(decider.wanted["equals"]))
 
 
 def comes_before(one, other):

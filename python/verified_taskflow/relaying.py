@@ -10,6 +10,7 @@ from taskflow.types import failure
 from . import links
 from .names import is_name
 from .refusals import Unsupported
+from .values import Texts
 
 
 def refuse_far(plan):
@@ -25,10 +26,11 @@ def refuse_far(plan):
 
 
 class Relays:
-    """Links to workers at addresses, each of which performs one task at a time."""
+    """Links to workers at addresses, each of which performs one task at a time. `pickled` tells whether values that are no JSON go to
+    and fro as pickles."""
 
-    def __init__(self, addresses, texts):
-        self._texts = texts
+    def __init__(self, addresses, pickled):
+        self._texts = Texts(True, pickled, links.TEXT_LIMIT)
         self._free = queue.SimpleQueue()
         self._all = []
         try:
@@ -50,6 +52,8 @@ class Relays:
         number, address, link = self._free.get()
         try:
             return self._ask(link, number, task, what, kwargs)
+        except links.TooLong:
+            return failure.Failure()
         except (OSError, EOFError, ValueError) as fault:
             return _failure("%s was lost at the worker %s: %s" % (task.name, address, fault))
         finally:

@@ -13,10 +13,20 @@ import pickle
 TEXT_LIMIT = 65_536
 """The most bytes of UTF-8 that a text in a book may have."""
 
+SHORT = 256
+"""The most characters of a str that is written as JSON even where values stay in this process."""
+
 MARK = "!"
 _PLAIN = frozenset((type(None), bool, int, float, str))
+_SMALL = frozenset((type(None), bool, float))
 _GROUPS = {"tuple": tuple, "set": set, "frozenset": frozenset}
 _decoder = json.JSONDecoder()
+
+
+def is_short(value):
+    """Whether a value is short and can't change, so that a text of it is as good as itself."""
+    kind = type(value)
+    return kind in _SMALL or kind is int and value.bit_length() <= 64 or kind is str and len(value) <= SHORT
 
 
 class NotKept(TypeError):
@@ -80,43 +90,39 @@ def _marked(mark, packed, places):
 class Texts:
     """Makes texts of an engine's values, and values of its texts.
 
-    `kept` tells whether the texts are for a book that outlives the process: if they aren't, a value that is no JSON is kept in
-    this object, and its text is its number. `pickled` tells whether such a value may be pickled, and a pickled one read."""
+    `kept` tells whether the texts are for a book that outlives the process, or for another process: if they aren't, a value that may
+    change or be long stays in this object, and its text is its number, so that who takes it gets the value itself. `pickled` tells whether
+    a value that is no JSON may be pickled, and a pickled one read. `limit` is the most bytes of a text that is kept."""
 
-    def __init__(self, kept, pickled):
+    def __init__(self, kept, pickled, limit=TEXT_LIMIT):
         self._kept = kept
         self._pickled = pickled
+        self._limit = limit
         self._numbers = itertools.count()
         self._objects = {}
 
     def text_of(self, value, places=None, place="the value"):
         """The text of a value, whose symbols have these places (a dict from symbol to index or key), if any.
 
-        Raises NotKept where it is no JSON and may neither be pickled nor stay in this process, or where the text would have
-        more than TEXT_LIMIT bytes."""
+        Raises NotKept where it can't stay in this process, and is no JSON and may not be pickled, or has a text above the limit."""
         if value is None and not places:
             return "json [null]"
+        if not self._kept and not is_short(value):
+            return self._object_text(value, places)
         try:
             text = _marked("json", pack(value, place), places)
         except (NotKept, RecursionError, ValueError) as fault:
             return self._other_text(value, places, fault)
-        if len(text) * 4 > TEXT_LIMIT and len(text.encode()) > TEXT_LIMIT:
-            return self._long_text(value, places, place, text)
+        if len(text) * 4 > self._limit and len(text.encode()) > self._limit:
+            raise NotKept("%s has %d bytes as JSON, above %d" % (place, len(text.encode()), self._limit))
         return text
 
     def _other_text(self, value, places, fault):
         if self._pickled:
             text = _marked("pickle", base64.b64encode(pickle.dumps(value)).decode(), places)
-            if len(text) <= TEXT_LIMIT:
+            if len(text) <= self._limit:
                 return text
-        if self._kept:
-            raise NotKept("%s" % fault if type(fault) is NotKept else "it is no JSON: %s" % fault)
-        return self._object_text(value, places)
-
-    def _long_text(self, value, places, place, text):
-        if self._kept:
-            raise NotKept("%s has %d bytes as JSON, above %d" % (place, len(text.encode()), TEXT_LIMIT))
-        return self._object_text(value, places)
+        raise NotKept("%s" % fault if type(fault) is NotKept else "it is no JSON: %s" % fault)
 
     def _object_text(self, value, places):
         number = next(self._numbers)

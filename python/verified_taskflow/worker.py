@@ -23,7 +23,7 @@ class Worker:
 
     def __init__(self, modules, pickled=False):
         self._modules = {name: importlib.import_module(name) for name in modules}
-        self._texts = Texts(True, pickled)
+        self._texts = Texts(True, pickled, links.TEXT_LIMIT)
 
     def serve(self, address):
         """Listens at the address, and serves each link that is made there, without end."""
