@@ -9,11 +9,13 @@ import sys
 import threading
 import unittest
 
+from taskflow import states
+
 sys.path.insert(0, os.path.dirname(os.path.abspath(__file__)))
 from cases import HERE, SITE, Case, line  # noqa: E402
 from tasks_of_tests import Give, Note, Sum  # noqa: E402
 
-from verified_taskflow import links, values  # noqa: E402
+from verified_taskflow import Unsupported, links, values  # noqa: E402
 
 
 class Payload:
@@ -78,6 +80,48 @@ class Replies(Case):
             self.load(line("f", Sum("a", requires=["one"])), store={"one": 1}, workers=["unix:w.socket"]).run()
         self.assertIn("pickle=True", str(caught.exception))
         self.assertFalse(os.path.exists("unpickled"))
+
+
+class Long:
+    """Its pickle has 100,000 bytes."""
+
+    def __init__(self):
+        self.text = "y" * 100_000
+
+
+class Failing(Case):
+    """A value that no text can be made of fails its task, which is undone as any that failed."""
+
+    def reverted(self, value, **options):
+        undone = Note("a")
+        engine = self.load(line("f", undone, Give("odd", value)), book="x.book", **options)
+        with self.assertRaises(TypeError) as caught:
+            engine.run()
+        self.assertEqual(states.REVERTED, engine.storage.get_flow_state())
+        self.assertEqual(["execute", "revert"], [call[0] for call in undone.calls])
+        os.unlink("x.book")
+        return str(caught.exception)
+
+    def test_what_pickle_refuses(self):
+        for value, reason in ((lambda: 1, "Can't pickle"), (threading.Lock(), "cannot pickle '_thread.lock' object")):
+            text = self.reverted({"k": value}, pickle=True)
+            self.assertIn("the result of odd can't be pickled", text)
+            self.assertIn(reason, text)
+
+    def test_a_long_pickle_is_told_as_one(self):
+        text = self.reverted(Long(), pickle=True)
+        self.assertRegex(text, "the result of odd has 1[0-9]{5} bytes as a pickle, above 65536")
+
+    def test_a_list_that_has_itself_is_told_with_the_name(self):
+        endless = []
+        endless.append(endless)
+        self.assertIn("the result of odd is no JSON: maximum recursion depth", self.reverted(endless))
+
+    def test_a_store_is_refused_with_the_name(self):
+        engine = self.load(line("f", Note("a", requires=["lock"])), store={"lock": threading.Lock()}, book="x.book", pickle=True)
+        with self.assertRaises(Unsupported) as caught:
+            engine.compile()
+        self.assertIn("the value of lock in the store can't be pickled", caught.exception.reason)
 
 
 if __name__ == "__main__":

@@ -87,6 +87,14 @@ def _marked(mark, packed, places):
     return "%s %s" % (mark, dump([packed, places] if places else [packed]))
 
 
+def _pickle(value, place):
+    """The value's pickle (a str). Raises NotKept where it has none: a value's own code may raise anything."""
+    try:
+        return base64.b64encode(pickle.dumps(value)).decode()
+    except Exception as fault:
+        raise NotKept("%s can't be pickled: %s" % (place, fault)) from fault
+
+
 class Texts:
     """Makes texts of an engine's values, and values of its texts.
 
@@ -104,25 +112,20 @@ class Texts:
     def text_of(self, value, places=None, place="the value"):
         """The text of a value, whose symbols have these places (a dict from symbol to index or key), if any.
 
-        Raises NotKept where it can't stay in this process, and is no JSON and may not be pickled, or has a text above the limit."""
+        Raises NotKept where it must be kept, and is no JSON and can't or may not be pickled, or has a text above the limit."""
         if value is None and not places:
             return "json [null]"
         if not self._kept and not is_short(value):
             return self._object_text(value, places)
         try:
-            text = _marked("json", pack(value, place), places)
+            form, text = "JSON", _marked("json", pack(value, place), places)
         except (NotKept, RecursionError, ValueError) as fault:
-            return self._other_text(value, places, fault)
+            if not self._pickled:
+                raise fault if type(fault) is NotKept else NotKept("%s is no JSON: %s" % (place, fault))
+            form, text = "a pickle", _marked("pickle", _pickle(value, place), places)
         if len(text) * 4 > self._limit and len(text.encode()) > self._limit:
-            raise NotKept("%s has %d bytes as JSON, above %d" % (place, len(text.encode()), self._limit))
+            raise NotKept("%s has %d bytes as %s, above %d" % (place, len(text.encode()), form, self._limit))
         return text
-
-    def _other_text(self, value, places, fault):
-        if self._pickled:
-            text = _marked("pickle", base64.b64encode(pickle.dumps(value)).decode(), places)
-            if len(text) <= self._limit:
-                return text
-        raise NotKept("%s" % fault if type(fault) is NotKept else "it is no JSON: %s" % fault)
 
     def _object_text(self, value, places):
         number = next(self._numbers)
