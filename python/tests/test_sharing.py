@@ -1,15 +1,20 @@
 """Engines that share a book, or a flow detail: what another one did is never lost, nor done again."""
 
+import contextlib
 import os
 import sys
 import unittest
 
+import taskflow.engines
+from taskflow import exceptions
 from taskflow import states
 from taskflow import task
+from taskflow.persistence import backends
+from taskflow.utils import persistence_utils
 
 sys.path.insert(0, os.path.dirname(os.path.abspath(__file__)))
 from cases import Case, line  # noqa: E402
-from tasks_of_tests import Give  # noqa: E402
+from tasks_of_tests import Fail, Give, Note  # noqa: E402
 
 
 class Sharing(Case):
@@ -88,6 +93,49 @@ class Sharing(Case):
         with self.assertRaisesRegex(Exception, "no"):
             found[0].run()
         self.assertEqual((states.REVERTED, 1), (found[0].storage.get_flow_state(), len(found)))
+
+
+class Details(Case):
+    """A flow detail of a back end of TaskFlow, which another process or engine ran."""
+
+    def make(self):
+        self.back_end = backends.fetch({"connection": "memory"})
+        with contextlib.closing(self.back_end.get_connection()) as connection:
+            connection.upgrade()
+        self.logbook, self.detail = persistence_utils.temporary_flow_detail(self.back_end)
+
+    def run_with(self, engine, detail, *items):
+        loaded = taskflow.engines.load(line("f", *items), flow_detail=detail, book=self.logbook, backend=self.back_end, engine=engine)
+        loaded.run()
+        return loaded
+
+    def fetched(self):
+        with contextlib.closing(self.back_end.get_connection()) as connection:
+            return connection.get_logbook(self.logbook.uuid).find(self.detail.uuid)
+
+    def test_what_it_has_is_not_run_again_but_refused(self):
+        for engine in ("serial", "verified"):
+            with self.subTest(engine):
+                self.make()
+                self.run_with(engine, self.detail, Give("a", 1))
+                again = Note("a")
+                with self.assertRaises(exceptions.InvalidState) as caught:
+                    self.run_with("verified", self.fetched(), again)
+                self.assertIn("a as SUCCESS", str(caught.exception))
+                self.assertIn("book=", str(caught.exception))
+                self.assertEqual([], again.calls)
+
+    def test_a_reverted_one_runs_anew_and_the_same_detail_goes_on(self):
+        for engine in ("serial", "verified"):
+            with self.subTest(engine):
+                self.make()
+                with self.assertRaises(KeyError):
+                    self.run_with(engine, self.detail, Note("a"), Fail("b"))
+                first = Note("a")
+                loaded = self.run_with("verified", self.fetched(), first, Give("b", 2))
+                self.assertEqual((2, 1), (loaded.storage.get("b"), len(first.calls)))
+                self.run_with("verified", loaded._flow_detail, first, Give("b", 3))
+                self.assertEqual((2, 1), (loaded.storage.get("b"), len(first.calls)))
 
 
 if __name__ == "__main__":

@@ -178,7 +178,8 @@ class VerifiedEngine(base.Engine):
     @_checked(stored=False, validated=False)
     def prepare(self):
         """Makes the storage of all atoms, takes what the book has of the flow, and puts a reverted flow back. Raises StorageFailure
-        where the book can't be read, and InvalidState where it has another flow of this name."""
+        where the book can't be read, and InvalidState where it has another flow of this name, or where the flow detail has what no book
+        has."""
         with self._lock:
             if not self._stored:
                 self._store()
@@ -186,6 +187,16 @@ class VerifiedEngine(base.Engine):
                 self._look()
             if self.storage.get_flow_state() == states.REVERTED:
                 self.reset()
+            if not self._place.begun:
+                self._refuse_begun()
+
+    def _refuse_begun(self):
+        """Raises InvalidState where the flow detail has what no run of its place did: the program would run it again from the start."""
+        for atom in self._plan.atoms:
+            state = self.storage.detail(atom.name).state
+            if state != states.PENDING:
+                raise exceptions.InvalidState("the flow detail of %s has %s as %s, by another engine or process or by hand: this engine"
+                                              " goes on with what book= keeps alone" % (self._plan.root.name, atom.name, state))
 
     def _store(self):
         self.storage.ensure_atoms(atom.thing for atom in self._plan.atoms)
