@@ -273,6 +273,13 @@ class Books(Case):
                 .stdout.decode() for word, seed in (("first", "1"), ("second", "2"))]
         self.assertEqual(["SUSPENDED None\n", "SUCCESS %d\n" % (8 * 130 + 28)], said)
 
+    def test_the_book_and_its_failures_are_the_users_alone(self):
+        before = os.umask(0)
+        self.addCleanup(os.umask, before)
+        with self.assertRaises(KeyError):
+            self.load(line("f", Fail("a")), book="x.book").run()
+        self.assertEqual([0o600] * 2, [os.stat(name).st_mode & 0o777 for name in ("x.book", "x.book.failures")])
+
     def test_failures_of_several_hands_keep_apart(self):
         class Odd(task.Task):
             def execute(self):

@@ -80,7 +80,7 @@ def _sweep_folder(folder):
 
 class Failures:
     """The failures of a book's tasks. The book has of each its number, counted from 1; the file BOOK`.failures` beside it has a line
-    of JSON for each, which is on the disk before the book has the number. Without a path they stay in this process.
+    of JSON for each, which is on the disk before the book has the number; its mode is 0600. Without a path they stay in this process.
 
     A failure of this process is kept as it is, with its traceback; of another process's there are the type, the message and the
     traceback as text."""
@@ -112,7 +112,7 @@ class Failures:
             return number
 
     def _write(self, line, front):
-        with open(self._path, "ab") as file:
+        with open(self._path, "ab", opener=_open_private) as file:
             file.write(front + line + b"\n")
             file.flush()
             os.fsync(file.fileno())
@@ -132,6 +132,11 @@ class Failures:
         except (ValueError, KeyError, TypeError):
             return None
         return self._here[number]
+
+
+def _open_private(path, flags):
+    """A file that the user alone may read, as the book is: messages and tracebacks may tell a secret."""
+    return os.open(path, flags, 0o600)
 
 
 def _line_of(fault):
