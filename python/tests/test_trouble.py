@@ -1,5 +1,6 @@
 """What goes wrong around a run: hooks and disks that fail, signals, programs that end oddly. `run` returns or raises; it never hangs."""
 
+import contextlib
 import os
 import pathlib
 import signal
@@ -16,9 +17,9 @@ from taskflow.patterns import unordered_flow
 
 sys.path.insert(0, os.path.dirname(os.path.abspath(__file__)))
 from cases import HERE, Case, line  # noqa: E402
-from tasks_of_tests import Fail, Note  # noqa: E402
+from tasks_of_tests import Fail, Give, Note  # noqa: E402
 
-from verified_taskflow import program  # noqa: E402
+from verified_taskflow import Broken, program  # noqa: E402
 
 PATIENCE = 20
 """How long, in seconds, a run may take before it counts as one that hangs."""
@@ -81,6 +82,12 @@ class Suspending(Limited):
         self.assertEqual((states.SUCCESS, 1, 1), (engine.storage.get_flow_state(), len(first.calls), len(second.calls)))
 
 
+def write_program(text):
+    """Writes a program of the shell in the current folder."""
+    pathlib.Path("program").write_text("#!/bin/sh\n" + text)
+    os.chmod("program", 0o700)
+
+
 class Signals(Case):
     def test_a_signal_to_the_group_that_the_user_handles_ends_nothing(self):
         text = ("import os, signal, sys, time; sys.path.insert(0, %r)\n"
@@ -107,10 +114,52 @@ class Signals(Case):
                     self.assertEqual((0, ""), (done.returncode, done.stderr.decode()))
 
     def test_a_signal_to_the_group_ends_no_question_to_the_program(self):
-        pathlib.Path("program").write_text("#!/bin/sh\nkill -INT $$\nkill -TERM $$\necho asked\n")
-        os.chmod("program", 0o700)
-        self.assertEqual((0, ["asked"], ""), program.ask([os.path.abspath("program")]))
+        write_program("kill -INT $$\nkill -TERM $$\necho ok it is\n")
+        self.assertEqual((0, ["ok it is"], ""), program.ask([os.path.abspath("program")], "ok "))
         self.assertEqual(set(), signal.pthread_sigmask(signal.SIG_BLOCK, ()))
+
+
+def reap(number, frame):
+    """A handler that takes the status of every child, as some servers have."""
+    with contextlib.suppress(ChildProcessError):
+        while os.waitpid(-1, os.WNOHANG)[0]:
+            pass
+
+
+class Statuses(Case):
+    """A status that somebody else took, or that means nothing, is never trusted alone."""
+
+    def outcomes(self, book):
+        """What each run of three flows raised, and their states."""
+        found = []
+        for name, last in (("good", Give("b")), ("bad", Fail("b"))):
+            engine = self.load(line(name, Give("a"), last), book=book)
+            for _ in range(2):
+                try:
+                    engine.run()
+                    found.append((name, None, engine.storage.get_flow_state()))
+                except Exception as fault:
+                    found.append((name, type(fault), engine.storage.get_flow_state()))
+        engine = self.load(line("stopped", Give("c"), Note("d")), book=book)
+        engine.atom_notifier.register(states.SUCCESS, lambda state, details: engine.suspend())
+        engine.run()
+        return found + [engine.storage.get_flow_state()]
+
+    def test_children_that_others_reap_change_nothing(self):
+        wanted = [("good", None, states.SUCCESS)] * 2 + [("bad", KeyError, states.REVERTED)] * 2 + [states.SUSPENDED]
+        before = signal.getsignal(signal.SIGCHLD)
+        self.addCleanup(signal.signal, signal.SIGCHLD, before)
+        for at, handler in enumerate((signal.SIG_DFL, signal.SIG_IGN, reap)):
+            for book in (None, "x%d.book" % at):
+                with self.subTest(handler=handler, book=book):
+                    signal.signal(signal.SIGCHLD, handler)
+                    self.assertEqual(wanted, self.outcomes(book))
+
+    def test_a_program_that_says_nothing_is_told(self):
+        for text in ("exit 0", "exit 10", "test $1 = check && echo ok f; exit 0", "test $1 = check && echo ok f; exit 11"):
+            write_program(text)
+            with self.subTest(text), self.assertRaisesRegex(Broken, "without saying how"):
+                self.load(line("f", Give("a")), program=os.path.abspath("program")).run()
 
 
 if __name__ == "__main__":

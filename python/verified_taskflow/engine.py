@@ -26,6 +26,8 @@ from .storage import Storage
 from .values import NotKept, Texts
 
 HAND_LIMIT = 64
+_NO_FLOW = "taskflow: no flow: "
+"""What the program says where a book hasn't the flow that is to be shown."""
 
 
 class Place:
@@ -159,7 +161,7 @@ class VerifiedEngine(base.Engine):
 
     def _check(self, file, name):
         """Has the program check a flow file, so that what it refuses is refused before a run."""
-        status, lines, errors = program.ask([self._program, "check", "--", self._write(file)])
+        status, lines, errors = program.ask([self._program, "check", "--", self._write(file)], "ok ")
         if status != program.SUCCESS:
             raise program.fault_of(name, status, lines[-1] if lines else "", errors)
 
@@ -244,7 +246,8 @@ class VerifiedEngine(base.Engine):
     def _reset_kept(self):
         if not self._place.begun:
             return
-        status, lines, errors = program.ask_when_free([self._program, "reset", "--", self._place.book, self._plan.root.label])
+        words = [self._program, "reset", "--", self._place.book, self._plan.root.label]
+        status, lines, errors = program.ask_when_free(words, tuple("0123456789"))
         self._take_lines(lines, tells=True)
         if status != program.SUCCESS:
             raise program.fault_of(self._plan.root.name, status, lines[-1] if lines else "", errors)
@@ -423,8 +426,8 @@ class VerifiedEngine(base.Engine):
         place = self._place
         if not os.path.exists(place.book) or not os.path.getsize(place.book):
             return []
-        status, lines, errors = program.ask([self._program, "show", "--", place.book, self._plan.root.label])
-        if status == program.FORBIDDEN:
+        status, lines, errors = program.ask([self._program, "show", "--", place.book, self._plan.root.label], "state ")
+        if status == program.FORBIDDEN or status == program.UNSAID and lines and lines[-1].startswith(_NO_FLOW):
             return []
         if status != program.SUCCESS:
             raise program.fault_of(self._plan.root.name, status, lines[-1] if lines else "", errors)

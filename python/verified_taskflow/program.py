@@ -9,6 +9,7 @@ import subprocess
 import time
 
 from taskflow import exceptions
+from taskflow import states
 
 from .refusals import Broken, Unsupported
 
@@ -23,6 +24,10 @@ _library = ctypes.CDLL(None)
 
 SUCCESS, REFUSED, DISK_FAULT, REVERTED, FAILURE, SUSPENDED, FORBIDDEN = 0, 4, 5, 10, 11, 12, 14
 ENDS = (SUCCESS, REVERTED, FAILURE, SUSPENDED)
+UNSAID = 255
+"""Stands for a status that was lost, or that a program gave which didn't say how it ended."""
+
+_END_WORDS = {states.SUCCESS: SUCCESS, states.REVERTED: REVERTED, states.FAILURE: FAILURE, states.SUSPENDED: SUSPENDED}
 
 
 def find(given=None):
@@ -64,13 +69,29 @@ def start(words, errors, keep):
                                 preexec_fn=die_with_parent, bufsize=0)
 
 
-def ask(words):
-    """Runs the program to its end, and gives its status and the lines (list of str) that it said."""
+def ask(words, front):
+    """Runs the program to its end, and gives its status and the lines (list of str) that it said, and its standard error (str). A status of 0
+    is UNSAID where no line begins with `front` (str, or a tuple of some)."""
     with _deaf():
         process = subprocess.Popen(words, stdin=subprocess.DEVNULL, stdout=subprocess.PIPE, stderr=subprocess.PIPE)
     with process:
         said, errors = process.communicate()
-    return process.returncode, said.decode().splitlines(), errors.decode("utf-8", "replace")
+    lines = said.decode().splitlines()
+    lost = process.returncode == SUCCESS and not any(line.startswith(front) for line in lines)
+    return UNSAID if lost else process.returncode, lines, errors.decode("utf-8", "replace")
+
+
+def status_of(code, said, killed):
+    """The status of a run whose process ended with `code` and the last line `said`; `killed` tells whether this process killed it.
+
+    The code alone means nothing: Python gives 0 for a process that somebody else reaped, as a handler of SIGCHLD may do, and the kernel
+    does where that is ignored."""
+    word = said.rpartition(" ")[2] if said.startswith("end ") else None
+    if word in _END_WORDS and code in (SUCCESS, _END_WORDS[word]):
+        return _END_WORDS[word]
+    if code in ENDS:
+        return -signal.SIGKILL if killed else UNSAID
+    return code
 
 
 class Holder:
@@ -102,8 +123,10 @@ class Holder:
     def end(self):
         """Ends it."""
         if self._child is not None:
-            os.kill(self._child, signal.SIGKILL)
-            os.waitpid(self._child, 0)
+            # Where children are reaped by others, as by a handler of SIGCHLD, it may be gone already.
+            with contextlib.suppress(ChildProcessError, ProcessLookupError):
+                os.kill(self._child, signal.SIGKILL)
+                os.waitpid(self._child, 0)
             self._child = None
 
 
@@ -112,10 +135,10 @@ WAITS = (0.01, 0.05, 0.2, 0.5, 1, 1, 2)
 write is on the disk."""
 
 
-def ask_when_free(words):
+def ask_when_free(words, front):
     """The same of a command that writes a book, once no other program has it; after WAITS what it said last."""
     for wait in WAITS:
-        status, lines, errors = ask(words)
+        status, lines, errors = ask(words, front)
         if status != DISK_FAULT or any(line[:1].isdigit() for line in lines):
             break
         time.sleep(wait)
@@ -128,6 +151,9 @@ def fault_of(name, status, said, errors):
     text = "%s%s" % (said or "the program ended with the status %d" % status, ": " + errors.strip() if errors.strip() else "")
     if status < 0:
         return Broken("the program was ended by signal %d; the book has what was done, and run() goes on with it" % -status)
+    if status == UNSAID:
+        return Broken("the program ended without saying how: it is another program, or its status was taken by who ignores SIGCHLD or"
+                      " reaps every child (%s)" % (errors.strip() or said or "it said nothing"))
     if status == REFUSED:
         return Unsupported(name, "the program refuses its flow file: %s" % said)
     if status in (DISK_FAULT, 6, 13, 16):

@@ -121,6 +121,7 @@ class Session:
         self.said = ""
         self.status = None
         self.stops = False
+        self._killed = False
         self._links = {}
         self._asked = {}
         self._started = {}
@@ -138,8 +139,16 @@ class Session:
     def abort(self, fault=None):
         """Ends the program at once, from any thread; `steps` raises the fault, if one is given."""
         self._fault = self._fault or fault
+        self._kill()
+
+    def _kill(self):
+        self._killed = True
         if self._process is not None:
             self._process.kill()
+
+    def _end(self):
+        """Waits for the program's end."""
+        self.status = program.status_of(self._process.wait(), self.said, self._killed)
 
     # Its course.
 
@@ -181,8 +190,8 @@ class Session:
     def _close(self, door, keeper):
         if self._process is not None:
             if self._process.poll() is None and self.status is None:
-                self._process.kill()
-            self.status = self._process.wait()
+                self._kill()
+            self._end()
             self._process.stdout.close()
         if self._holder is not None:
             self._holder.end()
@@ -207,7 +216,7 @@ class Session:
                 if handle == self._output:
                     if not self._read_lines():
                         yield from self._take_lines()
-                        self.status = self._process.wait()
+                        self._end()
                         return
                 elif handle == door.fileno():
                     self._welcome(door)
@@ -216,7 +225,7 @@ class Session:
             yield from self._take_lines()
             yield from self._serve()
             if self._is_stuck():
-                self._process.kill()
+                self._kill()
 
     def _welcome(self, door):
         """Takes a link of the program, and leaves a copy of it at once in a socket that the program itself holds, as it does the one that
