@@ -35,6 +35,13 @@ class Fail(task.Task):
         raise KeyError("the disk is full")
 
 
+class FailTwice(Fail):
+    """Fails where it is undone, too."""
+
+    def revert(self, **values):
+        raise KeyError("the disk is still full")
+
+
 class Add(task.Task):
     def execute(self, one, other=1):
         return one + other

@@ -12,18 +12,17 @@ import time
 import unittest
 
 import taskflow.engines
-import verified_taskflow
 from taskflow import exceptions
 from taskflow import retry
 from taskflow import states
 from taskflow import task
-from taskflow.patterns import graph_flow, linear_flow, unordered_flow
+from taskflow.patterns import graph_flow, unordered_flow
 from verified_taskflow import Broken, Unsupported, test
 from verified_taskflow import names, values
 
 sys.path.insert(0, os.path.dirname(os.path.abspath(__file__)))
 from cases import HERE, PROGRAM, SITE, Case, line  # noqa: E402
-from tasks_of_tests import Add, Fail, Give, Note  # noqa: E402
+from tasks_of_tests import Fail, Give, Note  # noqa: E402
 
 
 def make_flow():
@@ -514,53 +513,6 @@ class Deciding(Case):
     def test_a_decider_that_raises_breaks_the_run_off(self):
         with self.assertRaises(ZeroDivisionError):
             self.outcome(lambda history: 1 // 0, 3)
-
-
-class Workers(Case):
-    def start(self, address):
-        environment = dict(os.environ, PYTHONPATH="%s:%s" % (SITE, HERE))
-        words = [sys.executable, "-m", "verified_taskflow.worker", "tasks_of_tests", "--address", address]
-        process = subprocess.Popen(words, stdout=subprocess.PIPE, env=environment)
-        self.addCleanup(process.stdout.close)
-        self.addCleanup(process.wait)
-        self.addCleanup(process.kill)
-        self.assertEqual(b"listening at %b\n" % address.encode(), process.stdout.readline())
-        return process
-
-    def test_tasks_are_performed_elsewhere(self):
-        self.start("unix:w.socket")
-        self.assertEqual(0o600, os.stat("w.socket").st_mode & 0o777)
-        flow = line("f", unordered_flow.Flow("u").add(Add("a", provides="x"), Add("b", provides="y", rebind={"one": "n"})),
-                    Add("c", rebind={"one": "x", "other": "y"}, provides="z"), Fail("d"))
-        engine = self.load(flow, store={"one": 1, "n": 10}, book="x.book", workers=["unix:w.socket", "unix:w.socket"])
-        with self.assertRaises(exceptions.WrappedFailure) as caught:
-            engine.run()
-        self.assertIn("KeyError: 'the disk is full'", str(caught.exception))
-        self.assertEqual({"2 11 13", "1 1 2", "10 1 11"},
-                         {row.split(" [")[0] for row in pathlib.Path("undone").read_text().splitlines()})
-        self.assertIn("Failure: KeyError", pathlib.Path("undone").read_text())
-
-    def test_a_lost_worker_fails_its_task(self):
-        process = self.start("unix:w.socket")
-        engine = self.load(line("f", Add("a"), Add("b")), store={"one": 1}, workers=["unix:w.socket"])
-        steps = engine.run_iter()
-        while next(steps) != states.WAITING:
-            pass
-        process.kill()
-        process.wait()
-        with self.assertRaises(exceptions.ExecutionFailure) as caught:
-            list(steps)
-        self.assertIn("b was lost at the worker unix:w.socket", str(caught.exception))
-        with self.assertRaises(exceptions.ExecutionFailure):
-            self.load(line("g", Add("a")), store={"one": 1}, workers=["unix:w.socket"]).run()
-
-    def test_a_class_without_a_name_is_refused(self):
-        class Local(task.Task):
-            def execute(self):
-                pass
-        with self.assertRaises(Unsupported) as caught:
-            self.load(line("f", Local("a")), workers=["unix:w.socket"]).compile()
-        self.assertIn("module:Class", str(caught.exception))
 
 
 if __name__ == "__main__":

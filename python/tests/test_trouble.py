@@ -17,7 +17,7 @@ from taskflow.patterns import unordered_flow
 
 sys.path.insert(0, os.path.dirname(os.path.abspath(__file__)))
 from cases import HERE, Case, line  # noqa: E402
-from tasks_of_tests import Fail, Give, Note  # noqa: E402
+from tasks_of_tests import Fail, FailTwice, Give, Note  # noqa: E402
 
 from verified_taskflow import Broken, program  # noqa: E402
 
@@ -130,7 +130,7 @@ class Statuses(Case):
     """A status that somebody else took, or that means nothing, is never trusted alone."""
 
     def outcomes(self, book):
-        """What each run of three flows raised, and their states."""
+        """What the runs of four flows raised, and their states."""
         found = []
         for name, last in (("good", Give("b")), ("bad", Fail("b"))):
             engine = self.load(line(name, Give("a"), last), book=book)
@@ -140,13 +140,19 @@ class Statuses(Case):
                     found.append((name, None, engine.storage.get_flow_state()))
                 except Exception as fault:
                     found.append((name, type(fault), engine.storage.get_flow_state()))
+        engine = self.load(line("left", FailTwice("e")), book=book)
+        for _ in range(2):
+            with self.assertRaises(KeyError):
+                engine.run()
+        found.append(engine.storage.get_flow_state())
         engine = self.load(line("stopped", Give("c"), Note("d")), book=book)
         engine.atom_notifier.register(states.SUCCESS, lambda state, details: engine.suspend())
         engine.run()
         return found + [engine.storage.get_flow_state()]
 
     def test_children_that_others_reap_change_nothing(self):
-        wanted = [("good", None, states.SUCCESS)] * 2 + [("bad", KeyError, states.REVERTED)] * 2 + [states.SUSPENDED]
+        wanted = [("good", None, states.SUCCESS)] * 2 + [("bad", KeyError, states.REVERTED)] * 2 + [
+            states.FAILURE, states.SUSPENDED]
         before = signal.getsignal(signal.SIGCHLD)
         self.addCleanup(signal.signal, signal.SIGCHLD, before)
         for at, handler in enumerate((signal.SIG_DFL, signal.SIG_IGN, reap)):

@@ -82,11 +82,12 @@ def ask(words, front):
 
 
 def status_of(code, said, killed):
-    """The status of a run whose process ended with `code` and the last line `said`; `killed` tells whether this process killed it.
+    """The status (int) of a run whose process ended with `code` (int) and the line `said`, `end FLOW STATE` or empty; `killed` tells whether
+    this process killed it.
 
     The code alone means nothing: Python gives 0 for a process that somebody else reaped, as a handler of SIGCHLD may do, and the kernel
     does where that is ignored."""
-    word = said.rpartition(" ")[2] if said.startswith("end ") else None
+    word = said.rpartition(" ")[2]
     if word in _END_WORDS and code in (SUCCESS, _END_WORDS[word]):
         return _END_WORDS[word]
     if code in ENDS:

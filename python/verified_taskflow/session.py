@@ -118,7 +118,7 @@ class Session:
         self._came = b""
         self.held = held
         self.seen = self.began = seen
-        self.said = ""
+        self.said = self._ended = ""
         self.status = None
         self.stops = False
         self._killed = False
@@ -148,7 +148,7 @@ class Session:
 
     def _end(self):
         """Waits for the program's end."""
-        self.status = program.status_of(self._process.wait(), self.said, self._killed)
+        self.status = program.status_of(self._process.wait(), self._ended, self._killed)
 
     # Its course.
 
@@ -254,6 +254,7 @@ class Session:
                 self._lines.append(line)
             else:
                 self.said = text.decode()
+                self._ended = self.said if self.said.startswith("end ") else self._ended
         return True
 
     def _catch_up(self, number):
