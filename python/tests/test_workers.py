@@ -13,9 +13,26 @@ from taskflow.patterns import unordered_flow
 
 sys.path.insert(0, os.path.dirname(os.path.abspath(__file__)))
 from cases import HERE, SITE, Case, line  # noqa: E402
-from tasks_of_tests import Add, Fail, Give, Sum  # noqa: E402
+from tasks_of_tests import Add, Fail  # noqa: E402
 
 from verified_taskflow import Unsupported  # noqa: E402
+
+
+class Needs(task.Task):
+    """Isn't made with its name alone."""
+
+    def __init__(self, name, size):
+        super().__init__(name)
+
+    def execute(self):
+        pass
+
+
+class Stranger(task.Task):
+    """A class of a module that no worker of these tests has."""
+
+    def execute(self):
+        pass
 
 
 class Workers(Case):
@@ -56,13 +73,37 @@ class Workers(Case):
         with self.assertRaises(exceptions.ExecutionFailure):
             self.load(line("g", Add("a")), store={"one": 1}, workers=["unix:w.socket"]).run()
 
-    def test_a_class_without_a_name_is_refused(self):
+    def refused(self, thing, reason):
+        with self.assertRaises(Unsupported) as caught:
+            self.load(line("f", thing), workers=["unix:w.socket"]).compile()
+        self.assertEqual(thing.name, caught.exception.name)
+        self.assertIn(reason, caught.exception.reason)
+
+    def test_what_a_worker_cannot_make_is_refused(self):
         class Local(task.Task):
             def execute(self):
                 pass
-        with self.assertRaises(Unsupported) as caught:
-            self.load(line("f", Local("a")), workers=["unix:w.socket"]).compile()
-        self.assertIn("module:Class", str(caught.exception))
+
+        class Main(task.Task):
+            def execute(self):
+                pass
+        Main.__module__, Main.__qualname__ = "__main__", "Main"
+        sys.modules["__main__"].Main = Main
+        self.addCleanup(delattr, sys.modules["__main__"], "Main")
+        self.refused(Local("a"), "isn't one that a worker finds as module:Class")
+        self.refused(Main("a"), "isn't one that a worker finds as module:Class")
+        self.refused(task.FunctorTask(print, "a"), "isn't made with a name alone")
+        self.refused(Needs("a", 4), "isn't made with a name alone")
+
+    def test_what_is_no_address_is_refused(self):
+        for address in ("there", "unix:", "tcp:localhost", "tcp:127.0.0.1:", "tcp::80", "tcp:127.0.0.1:eighty", "tcp:127.0.0.1:65536", 4):
+            with self.subTest(address), self.assertRaisesRegex(ValueError, "a worker's address is"):
+                self.load(line("f", Add("a")), workers=[address])
+
+    def test_a_class_that_a_worker_has_not_is_told(self):
+        self.start("unix:w.socket")
+        with self.assertRaisesRegex(exceptions.ExecutionFailure, "a failed at its worker: it was started without the module test_workers"):
+            self.load(line("f", Stranger("a")), workers=["unix:w.socket"]).run()
 
 
 if __name__ == "__main__":

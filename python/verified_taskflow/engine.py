@@ -15,6 +15,7 @@ from taskflow.types import failure
 from taskflow.types import notifier
 from taskflow.utils import misc
 
+from . import links
 from . import program
 from . import relaying
 from .books import Failures, Home, StopFile
@@ -607,6 +608,6 @@ def _addresses(given):
         return []
     addresses = given.split(",") if isinstance(given, str) else list(given)
     for address in addresses:
-        if not address.startswith(("unix:", "tcp:")):
+        if not links.is_address(address):
             raise ValueError("a worker's address is unix:PATH or tcp:127.0.0.1:PORT, not %r" % (address,))
     return addresses

@@ -15,6 +15,16 @@ class TooLong(Exception):
     """A message that is longer than a frame may be."""
 
 
+def is_address(given):
+    """Whether something is an address: a str, with a path, or with a host and a port of 1 to 65,535."""
+    if not isinstance(given, str):
+        return False
+    kind, _, where = given.partition(":")
+    host, _, port = where.rpartition(":")
+    return (kind == "unix" and bool(where)
+            or kind == "tcp" and bool(host) and port.isascii() and port.isdigit() and 0 < int(port) < 65_536)
+
+
 def dial(address):
     """A link to who listens at an address. Raises OSError where nobody does, ValueError where it is no address."""
     kind, _, where = address.partition(":")

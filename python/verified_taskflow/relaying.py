@@ -1,5 +1,6 @@
 """Tasks that workers in other processes perform: this process asks them for what the program asks of it."""
 
+import inspect
 import json
 import queue
 import sys
@@ -14,15 +15,31 @@ from .values import Texts
 
 
 def refuse_far(plan):
-    """Raises Unsupported where a task can't be named to another process: its class by a module, and its arguments by names."""
+    """Raises Unsupported where a task can't be named to another process: its class by a module, and its arguments by names; and where its
+    class isn't made with a name alone."""
     for atom in plan.atoms:
         if not atom.is_retry:
             kind = type(atom.thing)
-            if getattr(sys.modules.get(kind.__module__), kind.__qualname__, None) is not kind:
+            if not _is_found(kind):
                 raise Unsupported(atom.name, "its class %s isn't one that a worker finds as module:Class" % kind.__qualname__)
+            if not _is_made_by_name(kind):
+                raise Unsupported(atom.name, "its class %s isn't made with a name alone, as a worker makes it" % kind.__qualname__)
             for name in atom.thing.rebind:
                 if not is_name(name):
                     raise Unsupported(atom.name, "its argument %s can't be named to a worker" % name)
+
+
+def _is_found(kind):
+    """Whether another process finds a class by its module's name; `__main__` is another module there."""
+    return kind.__module__ != "__main__" and getattr(sys.modules.get(kind.__module__), kind.__qualname__, None) is kind
+
+
+def _is_made_by_name(kind):
+    try:
+        inspect.signature(kind).bind(name="")
+    except (TypeError, ValueError):
+        return False
+    return True
 
 
 class Relays:
@@ -83,7 +100,7 @@ class Relays:
 
     def _outcome(self, task, reply):
         if reply.get("state") != "SUCCESS":
-            return _failure("%s failed at its worker: %s" % (task.name, " ".join(map(str, reply.get("failure", ())))))
+            return _failure("%s failed at its worker: %s" % (task.name, _reason(task, reply.get("failure", ()))))
         text = reply["result"]
         if text.startswith("failure "):
             return failure.Failure.from_dict(json.loads(text[8:]))
@@ -91,6 +108,14 @@ class Relays:
             return self._texts.value_of(text)[0]
         except ValueError:
             return failure.Failure()
+
+
+def _reason(task, words):
+    """Why a worker performed nothing: `words` are those of its reply."""
+    if list(words) == ["spawn"]:
+        kind = type(task)
+        return "it was started without the module %s, or has no task class %s there" % (kind.__module__, kind.__qualname__)
+    return " ".join(map(str, words))
 
 
 def _text_of(fault):
