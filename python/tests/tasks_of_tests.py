@@ -1,5 +1,7 @@
 """Task classes that the tests run, here and in workers."""
 
+import os
+
 from taskflow import task
 
 
@@ -40,6 +42,15 @@ class FailTwice(Fail):
 
     def revert(self, **values):
         raise KeyError("the disk is still full")
+
+
+class Die(task.Task):
+    """Ends its process, behind a line in the file `path`."""
+
+    def execute(self, path):
+        with open(path, "a") as file:
+            file.write("begun\n")
+        os._exit(9)
 
 
 class Add(task.Task):

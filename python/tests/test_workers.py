@@ -13,7 +13,7 @@ from taskflow.patterns import unordered_flow
 
 sys.path.insert(0, os.path.dirname(os.path.abspath(__file__)))
 from cases import HERE, SITE, Case, line  # noqa: E402
-from tasks_of_tests import Add, Fail  # noqa: E402
+from tasks_of_tests import Add, Die, Fail  # noqa: E402
 
 from verified_taskflow import Unsupported  # noqa: E402
 
@@ -36,10 +36,14 @@ class Stranger(task.Task):
 
 
 class Workers(Case):
+    def words(self, address):
+        return [sys.executable, "-m", "verified_taskflow.worker", "tasks_of_tests", "--address", address]
+
+    def environment(self):
+        return dict(os.environ, PYTHONPATH="%s:%s" % (SITE, HERE))
+
     def start(self, address):
-        environment = dict(os.environ, PYTHONPATH="%s:%s" % (SITE, HERE))
-        words = [sys.executable, "-m", "verified_taskflow.worker", "tasks_of_tests", "--address", address]
-        process = subprocess.Popen(words, stdout=subprocess.PIPE, env=environment)
+        process = subprocess.Popen(self.words(address), stdout=subprocess.PIPE, env=self.environment())
         self.addCleanup(process.stdout.close)
         self.addCleanup(process.wait)
         self.addCleanup(process.kill)
@@ -104,6 +108,39 @@ class Workers(Case):
         self.start("unix:w.socket")
         with self.assertRaisesRegex(exceptions.ExecutionFailure, "a failed at its worker: it was started without the module test_workers"):
             self.load(line("f", Stranger("a")), workers=["unix:w.socket"]).run()
+
+    def test_a_worker_starts_again_where_it_was_killed_and_takes_its_socket_with_it(self):
+        self.start("unix:w.socket").kill()
+        process = self.start("unix:w.socket")
+        other = subprocess.run(self.words("unix:w.socket"), env=self.environment(), stdout=subprocess.PIPE, stderr=subprocess.PIPE)
+        self.assertIn(b"Address already in use", other.stderr)
+        self.load(line("f", Add("a")), store={"one": 1}, workers=["unix:w.socket"]).run()
+        process.terminate()
+        self.assertEqual(0, process.wait())
+        self.assertFalse(os.path.exists("w.socket"))
+        pathlib.Path("w.socket").write_text("no socket")
+        other = subprocess.run(self.words("unix:w.socket"), env=self.environment(), stdout=subprocess.PIPE, stderr=subprocess.PIPE)
+        self.assertIn(b"Address already in use", other.stderr)
+        self.assertEqual("no socket", pathlib.Path("w.socket").read_text())
+
+    def test_a_worker_that_starts_again_between_two_tasks_is_dialled_again(self):
+        processes = [self.start("unix:w.socket")]
+
+        def again(state, details):
+            if details["task_name"] == "a":
+                processes[0].kill()
+                processes[0].wait()
+                processes.append(self.start("unix:w.socket"))
+        engine = self.load(line("f", Add("a", provides="x"), Add("b", rebind={"one": "x"})), store={"one": 1}, workers=["unix:w.socket"])
+        engine.atom_notifier.register(states.SUCCESS, again)
+        engine.run()
+        self.assertEqual(3, engine.storage.get("b"))
+
+    def test_a_task_that_was_begun_is_not_asked_for_again(self):
+        self.start("unix:w.socket")
+        with self.assertRaisesRegex(exceptions.ExecutionFailure, "a was lost at the worker unix:w.socket"):
+            self.load(line("f", Die("a")), store={"path": os.path.abspath("begun")}, workers=["unix:w.socket"]).run()
+        self.assertEqual("begun\n", pathlib.Path("begun").read_text())
 
 
 if __name__ == "__main__":

@@ -1,8 +1,10 @@
 """Sockets at addresses (`unix:PATH`, `tcp:127.0.0.1:PORT`), and frames: a length in four bytes, the greatest first, and JSON."""
 
+import contextlib
 import json
 import os
 import socket
+import stat
 
 LIMIT = 67_108_864
 """The most bytes of a frame's JSON."""
@@ -45,9 +47,12 @@ def dial(address):
 
 
 def listen(address):
-    """A socket that listens at an address; that of a path has the mode 0600. Raises OSError where it can't."""
+    """A socket that listens at an address; that of a path has the mode 0600, and one that a killed process left there is removed. Raises
+    OSError where it can't."""
     kind, _, where = address.partition(":")
     if kind == "unix":
+        if _is_left(where):
+            os.unlink(where)
         door = socket.socket(socket.AF_UNIX)
         door.bind(where)
         os.chmod(where, 0o600)
@@ -56,6 +61,27 @@ def listen(address):
         door = socket.create_server((host, int(port)))
     door.listen()
     return door
+
+
+def _is_left(path):
+    """Whether a path is a socket at which nobody listens any more."""
+    try:
+        if not stat.S_ISSOCK(os.stat(path).st_mode):
+            return False
+        dial("unix:" + path).close()
+    except ConnectionRefusedError:
+        return True
+    except OSError:
+        pass
+    return False
+
+
+def leave(address):
+    """Removes the socket of an address, where it has a path."""
+    kind, _, where = address.partition(":")
+    if kind == "unix":
+        with contextlib.suppress(FileNotFoundError):
+            os.unlink(where)
 
 
 def say(link, message):
