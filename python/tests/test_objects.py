@@ -1,8 +1,10 @@
 """Values that stay in this process, where no book is kept: who takes one gets the object itself, as TaskFlow hands it on."""
 
+import gc
 import os
 import sys
 import unittest
+import weakref
 
 import taskflow.engines
 from taskflow import retry
@@ -11,7 +13,7 @@ from taskflow.patterns import graph_flow
 
 sys.path.insert(0, os.path.dirname(os.path.abspath(__file__)))
 from cases import Case, line  # noqa: E402
-from tasks_of_tests import Give, Note  # noqa: E402
+from tasks_of_tests import Fail, Give, Note  # noqa: E402
 
 from verified_taskflow import test, values  # noqa: E402
 
@@ -66,6 +68,44 @@ class Identity(Case):
                 flow.link(one, other, decider=test(equals=wanted))
                 self.load(flow).run()
                 self.assertEqual(goes, bool(other.calls), length)
+
+
+class Thing:
+    pass
+
+
+class Memory(Case):
+    def alive(self, engine):
+        """How many of the objects are alive at most as a task begins that is tried 8 times, and behind the runs."""
+        things, counts = weakref.WeakSet(), []
+
+        class Make(task.Task):
+            def execute(self):
+                gc.collect()
+                counts.append(len(things))
+                thing = Thing()
+                things.add(thing)
+                return thing
+        loaded = taskflow.engines.load(line("f", Make("m", provides="x"), Fail("b"), retry=retry.Times(8, "r")),
+                                       engine=engine)
+        for _ in range(2):
+            with self.assertRaises(KeyError):
+                loaded.run()
+        gc.collect()
+        return max(counts), len(things)
+
+    def test_results_of_earlier_attempts_are_let_go(self):
+        self.assertEqual(self.alive("serial"), self.alive("verified"))
+
+    def test_a_store_stays_once_however_often_it_is_written(self):
+        thing, taker = Thing(), Note("a", requires=["x"])
+        engine = self.load(line("f", taker), store={"x": thing})
+        for _ in range(3):
+            engine.run()
+            engine.reset()
+        self.assertEqual([thing] * 3, [call[1]["x"] for call in taker.calls])
+        self.assertEqual(1, engine.flow_file.count("object ["))
+        self.assertIn("object [0]", engine.flow_file)
 
 
 if __name__ == "__main__":

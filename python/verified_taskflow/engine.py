@@ -537,7 +537,7 @@ class VerifiedEngine(base.Engine):
         if isinstance(result, failure.Failure):
             return self._failed(result)
         try:
-            text = self._place.texts.text_of(result, atom.places, "the result of %s" % atom.name)
+            text = self._place.texts.text_of(result, atom.places, "the result of %s" % atom.name, atom.name)
         except NotKept:
             return self._failed(failure.Failure())
         self._recorder.made[atom] = (text, result)

@@ -108,15 +108,18 @@ class Texts:
         self._limit = limit
         self._numbers = itertools.count()
         self._objects = {}
+        self._lasting = {}
+        self._owned = {}
 
-    def text_of(self, value, places=None, place="the value"):
-        """The text of a value, whose symbols have these places (a dict from symbol to index or key), if any.
+    def text_of(self, value, places=None, place="the value", owner=None):
+        """The text of a value, whose symbols have these places (a dict from symbol to index or key), if any. Where it is the result of an
+        atom, that is the `owner` (its name): the owner's result before is let go.
 
         Raises NotKept where it must be kept, and is no JSON and can't or may not be pickled, or has a text above the limit."""
         if value is None and not places:
             return "json [null]"
         if not self._kept and not is_short(value):
-            return self._object_text(value, places)
+            return _marked("object", self._number_of(value, owner), places)
         try:
             form, text = "JSON", _marked("json", pack(value, place), places)
         except (NotKept, RecursionError, ValueError) as fault:
@@ -127,10 +130,23 @@ class Texts:
             raise NotKept("%s has %d bytes as %s, above %d" % (place, len(text.encode()), form, self._limit))
         return text
 
-    def _object_text(self, value, places):
-        number = next(self._numbers)
-        self._objects[number] = value
-        return _marked("object", number, places)
+    def _number_of(self, value, owner):
+        """The number of a value that stays here. One without an owner stays as long as this object, and has one number alone: a flow
+        file may be written again while the program has an earlier one."""
+        number = self._lasting.get(id(value)) if owner is None else None
+        if number is None:
+            number = next(self._numbers)
+            self._objects[number] = value
+            if owner is None:
+                self._lasting[id(value)] = number
+        if owner is not None:
+            self.let_go(owner)
+            self._owned[owner] = number
+        return number
+
+    def let_go(self, owner):
+        """Forgets the result of an atom (its name), which nobody takes any more."""
+        self._objects.pop(self._owned.pop(owner, None), None)
 
     def value_of(self, text):
         """The value of a text, and the places of its symbols (a dict, or None). Raises ValueError where it is none of ours, and where
