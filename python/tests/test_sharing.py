@@ -7,14 +7,18 @@ import unittest
 
 import taskflow.engines
 from taskflow import exceptions
+from taskflow import retry
 from taskflow import states
 from taskflow import task
+from taskflow.patterns import graph_flow, unordered_flow
 from taskflow.persistence import backends
 from taskflow.utils import persistence_utils
 
 sys.path.insert(0, os.path.dirname(os.path.abspath(__file__)))
 from cases import Case, line  # noqa: E402
-from tasks_of_tests import Fail, Give, Note  # noqa: E402
+from tasks_of_tests import Fail, Give, Note, Sum  # noqa: E402
+
+from verified_taskflow import test  # noqa: E402
 
 
 class Sharing(Case):
@@ -93,6 +97,81 @@ class Sharing(Case):
         with self.assertRaisesRegex(Exception, "no"):
             found[0].run()
         self.assertEqual((states.REVERTED, 1), (found[0].storage.get_flow_state(), len(found)))
+
+
+class Changing(Case):
+    """A flow that isn't the one of the book, though its atoms have the same names."""
+
+    def stopped(self, flow, **options):
+        """Runs a flow until its task `s` suspends it."""
+        self.engine = self.load(flow, book="x.book", **options)
+        self.engine.run()
+        self.assertEqual(states.SUSPENDED, self.engine.storage.get_flow_state())
+
+    def stop(self):
+        case = self
+
+        class Stop(task.Task):
+            def execute(self):
+                case.engine.suspend()
+        return Stop("s")
+
+    def test_another_flow_of_these_names_is_refused(self):
+        def decided(decider):
+            flow, one, other = graph_flow.Flow("f"), Give("s", 1), Note("b")
+            flow.add(one, other)
+            flow.link(one, other, decider=decider)
+            return flow
+        changes = (
+            (line("f", self.stop(), Give("b"), Give("c")), unordered_flow.Flow("f").add(Give("c"), Give("b"), Give("s"))),
+            (line("f", self.stop(), Give("b"), Give("c")), line("f", Give("s"), Give("c"), Give("b"))),
+            (line("f", self.stop(), Give("b")), line("f", Give("s"), Sum("b", requires=["x"]))),
+            (line("f", self.stop(), Give("b")), line("f", Give("s"), Give("b", provides="x"))),
+            (line("f", self.stop(), Give("b")), line("f", Give("s"), Note("b"))),
+            (line("f", self.stop(), Give("b")), line("f", line("g", Give("s"), Give("b")))),
+            (line("f", self.stop(), Give("b"), retry=retry.Times(2, "r")),
+             line("f", Give("s"), Give("b"), retry=retry.AlwaysRevert("r"))),
+        )
+        for at, (first, second) in enumerate(changes):
+            with self.subTest(at):
+                self.stopped(first)
+                engine = self.load(second, book="x.book", store={"x": 1})
+                with self.assertRaisesRegex(exceptions.InvalidState, "another flow of the name f"):
+                    engine.run()
+                self.assertIn("state f SUSPENDED", self.shown("x.book"))
+                os.unlink("x.book")
+        self.load(decided(test(equals=1)), book="y.book").run()
+        with self.assertRaisesRegex(exceptions.InvalidState, "another flow of the name f"):
+            self.load(decided(test(equals=2)), book="y.book").run()
+
+    def test_another_flow_on_the_same_flow_detail_is_refused(self):
+        for book in (None, "x.book"):
+            self.engine = self.load(line("f", self.stop(), Give("b"), Give("c")), book=book)
+            self.engine.run()
+            detail, last = self.engine._flow_detail, Note("c")
+            with self.assertRaisesRegex(exceptions.InvalidState, "another flow of the name f"):
+                self.load(line("f", Give("s"), last, Give("b")), book=book, flow_detail=detail).run()
+            self.load(line("f", Give("s"), Give("b"), Give("c", 7)), book=book, flow_detail=detail).run()
+            self.assertEqual((7, []), (self.engine.storage.get("c"), last.calls))
+
+    def test_what_changes_nothing_goes_on(self):
+        self.stopped(line("f", self.stop(), Give("b"), retry=retry.Times(2, "r")))
+        self.load(line("f", Give("s"), Give("b", 7), retry=retry.Times(3, "r")), book="x.book").run()
+        os.unlink("x.book.forms")
+        self.load(line("f", Give("b"), Give("s"), retry=retry.Times(2, "r")), book="x.book").run()
+        os.unlink("x.book")
+        self.stopped(line("f", self.stop(), Give("c")))
+        self.load(line("f", Give("s"), Give("c")), book="x.book").run()
+        self.assertEqual(0o600, os.stat("x.book.forms").st_mode & 0o777)
+
+    def test_a_store_is_the_books(self):
+        self.stopped(line("f", self.stop(), Note("b", requires=["x"])), store={"x": [1], "unused": object()})
+        for store in ({"x": [2], "more": 3}, {}):
+            engine = self.load(line("f", Give("s"), Note("b", requires=["x"])), book="x.book", store=store)
+            engine.run()
+            self.assertEqual([1], engine.storage.fetch("x"))
+            self.assertEqual({"x": [1]}, engine.storage.get("b"))
+            self.assertEqual(3 if store else None, engine.storage.fetch_all().get("more"))
 
 
 class Details(Case):

@@ -134,6 +134,44 @@ class Failures:
         return self._here[number]
 
 
+class Forms:
+    """What the flows of a book were begun with: the file BOOK`.forms` beside it, of mode 0600, has a line of JSON for each begin, of which
+    the last of a flow's name counts. The book has all of it too; this is what this package compares and tells."""
+
+    def __init__(self, path):
+        self._path = path
+
+    def find(self, name):
+        """What a flow was begun with: its form (str) and its store (a dict from symbols to texts); or None where that isn't known."""
+        found = None
+        for line in self._lines():
+            try:
+                words = json.loads(line)
+                if words["flow"] == name:
+                    found = (words["form"], dict(words["store"])) if words["form"] else None
+            except (ValueError, KeyError, TypeError):
+                # A line that a crash cut off says nothing.
+                continue
+        return found
+
+    def _lines(self):
+        if not os.path.exists(self._path):
+            return []
+        with open(self._path, "rb") as file:
+            return file.read().splitlines()
+
+    def add(self, name, form, store):
+        """Keeps what a flow was begun with."""
+        with open(self._path, "ab", opener=_open_private) as file:
+            front = b"\n" if file.tell() and not _ends_whole(self._path) else b""
+            file.write(front + json.dumps({"flow": name, "form": form, "store": store}).encode() + b"\n")
+
+    def forget(self, name):
+        """Forgets a flow that the book hasn't: another book stood at this path before."""
+        if self.find(name) is not None:
+            self.add(name, None, {})
+
+
 def _open_private(path, flags):
     """A file that the user alone may read, as the book is: messages and tracebacks may tell a secret."""
     return os.open(path, flags, 0o600)

@@ -18,7 +18,7 @@ from taskflow.utils import misc
 from . import links
 from . import program
 from . import relaying
-from .books import Failures, Home, StopFile
+from .books import Failures, Forms, Home, StopFile
 from .flow_file import FlowFile, value_of
 from .plan import Atom, Plan
 from .recorder import Line, Recorder
@@ -32,7 +32,7 @@ _NO_FLOW = "taskflow: no flow: "
 
 
 class Place:
-    """Where the runs of one flow detail are: its folder, its book, and how far its lines were taken.
+    """Where the runs of one flow detail are: its folder, its book, which plan began there, and how far its lines were taken.
 
     It stands on the flow detail, so that a further engine of the same flow detail goes on from there."""
 
@@ -43,12 +43,14 @@ class Place:
         self.texts = Texts(self.kept, pickled)
         self.failures = Failures(self.book + ".failures" if self.kept else None)
         self.stop = StopFile(self.book)
+        self.forms = Forms(self.book + ".forms") if self.kept else None
         self.forget()
 
     def forget(self):
         """Takes the flow as one that no run began."""
         self.begun = False
         self.ended = False
+        self.plan = None
         self.unsure = self.kept
         self.seen = 0
         self.held = []
@@ -186,6 +188,8 @@ class VerifiedEngine(base.Engine):
         with self._lock:
             if not self._stored:
                 self._store()
+            if self._place.plan not in (None, self._plan):
+                self._refuse_other_form(self._place.plan.form())
             if self._place.unsure:
                 self._look()
             if self.storage.get_flow_state() == states.REVERTED:
@@ -410,7 +414,11 @@ class VerifiedEngine(base.Engine):
         place.unsure = False
         lines = self._shown()
         if not lines:
+            if self._place.kept:
+                place.forms.forget(self._plan.root.label)
             return
+        if self._place.kept:
+            self._compare()
         new = [line for line in _entries(lines) if line.number > place.seen]
         if place.begun and not any(line.kind == "flow" for line in new):
             place.held += new
@@ -445,6 +453,21 @@ class VerifiedEngine(base.Engine):
         """The lines of the book's entries behind `seen` and before `number` (both int)."""
         return [line for line in _entries(self._shown()) if seen < line.number < number]
 
+    def _compare(self):
+        """Refuses a flow that has another form than the book's, and takes the book's store: its tasks get that, whatever was given now."""
+        found = self._place.forms.find(self._plan.root.label)
+        if found is None:
+            return
+        form, store = found
+        self._refuse_other_form(form)
+        if store:
+            self.storage.inject({symbol: self._place.texts.value_of(text)[0] for symbol, text in store.items()})
+
+    def _refuse_other_form(self, form):
+        if form != self._plan.form():
+            raise exceptions.InvalidState("the book %s has another flow of the name %s: other atoms, or these in another order, with other"
+                                          " deciders or other symbols" % (self._place.book, self._plan.root.name))
+
     def _refuse_other_atoms(self, lines):
         theirs = [text.split(" ", 2)[1] for text in lines if text.startswith("atom ")]
         ours = set(self._plan.by_label) | set(self._plan.hidden_by_label)
@@ -470,6 +493,10 @@ class VerifiedEngine(base.Engine):
 
     def take(self, line):
         """Takes a line of the run."""
+        if line.number == 1:
+            self._place.plan = self._plan
+            if self._place.kept:
+                self._place.forms.add(self._plan.root.label, self._plan.form(), self._file.stored)
         self._recorder.take(line)
 
     def is_hidden(self, label):
@@ -576,7 +603,7 @@ def _entries(lines):
 class _InBook:
     """Stands for the flow file of a flow that a book has already."""
 
-    text = None
+    text, stored = None, {}
 
 
 def _truth(value):

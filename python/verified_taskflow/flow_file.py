@@ -2,12 +2,10 @@
 
 from json.encoder import encode_basestring
 
-from taskflow import atom as atoms
 from taskflow import exceptions
-from taskflow import task as tasks
 
 from .names import Names, name_for
-from .plan import Atom, retry_kind
+from .plan import Atom, retry_kind, undoes
 from .refusals import Unsupported
 from .values import NotKept
 
@@ -30,7 +28,8 @@ def _array(texts):
 class FlowFile:
     """The flow file of a plan with the values of a store (a dict from symbols to values), made by `texts`.
 
-    `text` is the file. Raises MissingDependencies where nobody can give a symbol, and Unsupported where something has no form."""
+    `text` is the file, `stored` the texts of the store's values that it has (a dict from symbols). Raises MissingDependencies where nobody
+    can give a symbol, and Unsupported where something has no form."""
 
     def __init__(self, plan, store, texts):
         self._plan = plan
@@ -39,6 +38,7 @@ class FlowFile:
         self._names = Names()
         self._symbols = {}
         self._values = {}
+        self.stored = {}
         self._refuse_missing()
         self._sources = {atom: self._sources_of(atom) for atom in plan.atoms}
         self._groups = self._groups_of_results()
@@ -135,6 +135,7 @@ class FlowFile:
             except NotKept as fault:
                 raise Unsupported(self._plan.root.name, str(fault)) from None
             self._values[label] = quoted(text)
+            self.stored[symbol] = text
 
     # Items.
 
@@ -269,13 +270,3 @@ def value_of(given, symbol, texts):
 
 def _link(one, other, decider):
     return "{from=%s,to=%s%s}" % (quoted(one), quoted(other), "," + decider if decider else "")
-
-
-def undoes(task):
-    """Whether a task does anything where it is reverted."""
-    kind = type(task)
-    if kind.pre_revert is not atoms.Atom.pre_revert or kind.post_revert is not atoms.Atom.post_revert:
-        return True
-    if kind.revert is tasks.FunctorTask.revert:
-        return task._revert is not None
-    return kind.revert is not atoms.Atom.revert

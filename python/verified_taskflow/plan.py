@@ -1,5 +1,9 @@
 """A flow object as the tree that a flow file spells: which atoms and flows it has, under which names, and in which order."""
 
+import hashlib
+import json
+
+from taskflow import atom as atoms
 from taskflow import deciders as depths
 from taskflow import exceptions
 from taskflow import flow as flows
@@ -209,6 +213,27 @@ class Plan:
         return [one for one in self.providers.get(symbol, ()) if one is not atom and comes_before(one, atom)]
 
 
+    def form(self):
+        """A digest (str) of what the program is told of the flow: which atoms and flows it has, what comes before what, what decides, what
+        is undone, and which symbols are taken and given. It is the same whatever order the sets of a process have. The numbers of attempts,
+        the values to try and the priorities aren't in it."""
+        text = json.dumps([self._form_of(self.root), sorted(map(self._form_of_edges, self._edges))])
+        return hashlib.sha256(text.encode()).hexdigest()
+
+    def _form_of(self, item):
+        if type(item) is Atom:
+            return _form_of_atom(item)
+        items = [self._form_of(one) for one in item.items]
+        links = sorted([item.items[one].label, item.items[other].label] for one, other in item.links)
+        retry = [retry_kind(item.retry.thing), _form_of_atom(item.retry)] if item.retry is not None else None
+        return [item.label, item.kind, retry, items if item.kind == "linear" else sorted(items, key=lambda one: one[0]), links]
+
+    def _form_of_edges(self, atom):
+        """The deciders before a task: those that the file says are in it, and those that are asked with their places alone."""
+        return [atom.label, sorted([edge.source.label, edge.target.label, edge.depth, "" if hidden else repr(edge.decider)]
+                                   for edge, hidden in self._edges[atom])]
+
+
 class Edge:
     """A decided link to an atom: its source (TaskFlow's object), the decider, and its depth (ALL, FLOW, NEIGHBORS or ATOM)."""
 
@@ -276,21 +301,39 @@ def retry_kind(controller):
     return next(kind for pattern, kind in _RETRIES if isinstance(controller, pattern))
 
 
-def _providers(atoms):
+def _form_of_atom(atom):
+    thing = atom.thing
+    takes = [sorted({str(symbol) for symbol in rebind.values() if symbol not in optional and not (thing.inject and symbol in thing.inject)})
+             for rebind, optional in ((thing.rebind, thing.optional), (thing.revert_rebind, thing.revert_optional))]
+    gives = sorted([str(symbol), str(index)] for symbol, index in thing.save_as.items())
+    return [atom.label, takes, gives, atom.is_retry or undoes(thing)]
+
+
+def _providers(all_of_them):
     found = {}
-    for atom in atoms:
+    for atom in all_of_them:
         for symbol in atom.provides():
             found.setdefault(symbol, []).append(atom)
     return found
+
+
+def undoes(task):
+    """Whether a task does anything where it is reverted."""
+    kind = type(task)
+    if kind.pre_revert is not atoms.Atom.pre_revert or kind.post_revert is not atoms.Atom.post_revert:
+        return True
+    if kind.revert is tasks.FunctorTask.revert:
+        return task._revert is not None
+    return kind.revert is not atoms.Atom.revert
 
 
 def _unknown(item):
     return TypeError("Unknown object '%s' (%s) requested to compile" % (item, type(item)))
 
 
-def _refuse_duplicates(atoms):
+def _refuse_duplicates(all_of_them):
     seen, twice = set(), set()
-    for atom in atoms:
+    for atom in all_of_them:
         (twice if atom.name in seen else seen).add(atom.name)
     if twice:
         raise exceptions.Duplicate("Atoms with duplicate names found: %s" % sorted(twice))
