@@ -84,7 +84,7 @@ class VerifiedEngine(base.Engine):
 
     - `book` (path): the book that keeps the run; `taskflow.engines.load` hands it on as the flow detail's. Without one nothing
       outlives this process.
-    - `hands` (int, 1 to 64; else `max_workers`, else 1): how many tasks may be at work at the same time. One hand performs in the
+    - `hands` (int, 1 to 64; else `max_workers`, at most 64, else 1): how many tasks may be at work at the same time. One hand performs in the
       thread that calls `run`, several in threads of their own, or in `executor`, where that is an object with `submit`.
     - `pickle` (bool): whether results that are no JSON are pickled into a kept book.
     - `workers` (list of addresses, `unix:PATH` or `tcp:127.0.0.1:PORT`): processes that perform in place of this one.
@@ -499,6 +499,10 @@ class VerifiedEngine(base.Engine):
                 self._place.forms.add(self._plan.root.label, self._plan.form(), self._file.stored)
         self._recorder.take(line)
 
+    def label_of(self, word):
+        """The name in the file of what a request asks for."""
+        return self._plan.label_of(word)
+
     def is_hidden(self, label):
         """Whether what has this name in the file is none of the flow's atoms."""
         return label in self._plan.hidden_by_label
@@ -613,8 +617,9 @@ def _truth(value):
 
 def _hands(options):
     given = options.get("hands")
-    if given is None:
-        given = options.get("max_workers")
+    if given is None and options.get("max_workers") is not None:
+        # TaskFlow has no limit of threads; more than the program has hands for would idle.
+        given = min(int(options["max_workers"]), HAND_LIMIT)
     hands = 1 if given is None else int(given)
     if not 1 <= hands <= HAND_LIMIT:
         raise ValueError("hands are 1 to %d, not %s" % (HAND_LIMIT, given))

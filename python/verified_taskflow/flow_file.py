@@ -160,14 +160,15 @@ class FlowFile:
         return "{%s}" % ",".join(part for part in parts if part)
 
     def _task_table(self, atom):
-        parts = ["task=%s" % quoted(atom.label), 'kind="command"', "run=[%s]" % quoted(atom.label)]
+        word = quoted(self._plan.word_of(atom.label))
+        parts = ["task=%s" % quoted(atom.label), 'kind="command"', "run=[%s]" % word]
         if self._written[atom]:
             parts.append("requires=%s" % _array(self._written[atom]))
         name = self._provided(atom)
         if name:
             parts.append("provides=%s" % quoted(name))
         if undoes(atom.thing):
-            parts.append("revert=[%s]" % quoted(atom.label))
+            parts.append("revert=[%s]" % word)
         if atom.thing.priority:
             parts.append("priority=%d" % atom.thing.priority)
         return "{%s}" % ",".join(parts)
@@ -180,7 +181,7 @@ class FlowFile:
         return [hidden for item in node.items if type(item) is Atom for _, hidden in self._plan.edges(item) if hidden]
 
     def _hidden_item(self, hidden):
-        return '{task=%s,kind="command",run=[%s]}' % (quoted(hidden.label), quoted(hidden.label))
+        return '{task=%s,kind="command",run=[%s]}' % (quoted(hidden.label), quoted(self._plan.word_of(hidden.label)))
 
     def _links(self, node):
         """The links of a flow that is written as a graph: its own, and those to and from its hidden tasks."""

@@ -1,5 +1,6 @@
 """A flow object as the tree that a flow file spells: which atoms and flows it has, under which names, and in which order."""
 
+import collections
 import hashlib
 import json
 
@@ -14,6 +15,9 @@ from taskflow.patterns import graph_flow, linear_flow, unordered_flow
 from .names import Names
 from .refusals import Unsupported
 from .values import is_short, places_of
+
+WORD_LIMIT = 16
+"""The most characters of a name by which the program asks for a task as it is."""
 
 ATOM_LIMIT, FLOW_LIMIT, NESTING_LIMIT, LINK_LIMIT = 1_000, 500, 16, 4_000
 _KINDS = ((linear_flow.Flow, "linear"), (unordered_flow.Flow, "unordered"), (graph_flow.Flow, "graph"))
@@ -112,6 +116,8 @@ class Plan:
             self.root_idle = self._hide(Hidden())
         self._give_names()
         self._refuse_limits()
+        self._words = _words_of([one.label for one in self.atoms + self.hidden])
+        self._labels = {word: label for label, word in self._words.items()}
         self.by_label = {atom.label: atom for atom in self.atoms}
         self.by_name = {atom.name: atom for atom in self.atoms}
         self.hidden_by_label = {hidden.label: hidden for hidden in self.hidden}
@@ -180,6 +186,15 @@ class Plan:
                               " skipped" % atom.name)
         asked = [None if is_said(edge, edges, atom) else self._hide(Hidden(atom, edge)) for edge in edges]
         self._edges[atom] = list(zip(edges, asked))
+
+    def word_of(self, label):
+        """The word by which the program asks for what has this name: the name, or a digest of a long one, which is the same in each
+        process."""
+        return self._words[label]
+
+    def label_of(self, word):
+        """The name that a word of `word_of` means, or the word itself: files had the names once."""
+        return self._labels.get(word, word)
 
     def edges(self, atom):
         """The decided links to a task: pairs of an Edge and the Hidden task that asks it, or None where the file says the test."""
@@ -299,6 +314,13 @@ def refuse_retry(controller):
 def retry_kind(controller):
     """The word of a flow file for a retry controller."""
     return next(kind for pattern, kind in _RETRIES if isinstance(controller, pattern))
+
+
+def _words_of(labels):
+    """From each name to its word. No name begins as a digest does, and two that had the same one keep their names."""
+    words = {label: label if len(label) <= WORD_LIMIT else "." + hashlib.sha256(label.encode()).hexdigest()[:10] for label in labels}
+    counts = collections.Counter(words.values())
+    return {label: word if counts[word] == 1 else label for label, word in words.items()}
 
 
 def _form_of_atom(atom):

@@ -104,8 +104,8 @@ class Hands:
 
 class Session:
     """One run of the program. `host` performs and takes lines: `perform(request)` gives an outcome, `is_hidden(label)` tells what is
-    performed in the thread of the session, `take(line)` takes a line, `missed(seen, number)` gives the lines of another run's entries
-    between two numbers, and `catch_up(lines)` takes such.
+    performed in the thread of the session, `label_of(word)` gives the name by which lines call what a request asks for, `take(line)` takes
+    a line, `missed(seen, number)` gives the lines of another run's entries between two numbers, and `catch_up(lines)` takes such.
 
     `seen` is the number of the last entry that was said; `held` are lines of entries that the program recorded after it was
     asked to stop: they are taken when the flow goes on."""
@@ -270,6 +270,7 @@ class Session:
             self._ends.unregister(link.fileno())
             return
         if request is not None:
+            request.label = self._host.label_of(request.label)
             self._asked[request.label] = request
             self._match(request.label)
 
