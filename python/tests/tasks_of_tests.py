@@ -65,3 +65,17 @@ class Add(task.Task):
 class Sum(task.Task):
     def execute(self, **values):
         return sum(values.values())
+
+
+class Same(task.Task):
+    """Gives what it takes."""
+
+    def execute(self, one):
+        return one
+
+
+class Odd(task.Task):
+    """Gives what is no JSON."""
+
+    def execute(self):
+        return object()

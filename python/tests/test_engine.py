@@ -62,7 +62,10 @@ class Loading(Case):
         self.assertIn("state f SUCCESS", self.shown("x.book"))
 
     def test_bad_options_are_refused(self):
-        for options in ({"hands": 0}, {"hands": 65}, {"executor": "processes"}, {"never_resolve": True}, {"workers": ["there"]}):
+        processes = concurrent.futures.ProcessPoolExecutor(1)
+        self.addCleanup(processes.shutdown)
+        for options in ({"hands": 0}, {"hands": 65}, {"executor": "processes"}, {"executor": processes}, {"never_resolve": True},
+                        {"workers": ["there"]}):
             with self.subTest(options), self.assertRaises(ValueError):
                 self.load(line("f", Give("a")), **options)
 

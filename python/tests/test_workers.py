@@ -13,7 +13,7 @@ from taskflow.patterns import unordered_flow
 
 sys.path.insert(0, os.path.dirname(os.path.abspath(__file__)))
 from cases import HERE, SITE, Case, line  # noqa: E402
-from tasks_of_tests import Add, Die, Fail  # noqa: E402
+from tasks_of_tests import Add, Die, Fail, Odd, Same  # noqa: E402
 
 from verified_taskflow import Unsupported  # noqa: E402
 
@@ -103,6 +103,24 @@ class Workers(Case):
         for address in ("there", "unix:", "tcp:localhost", "tcp:127.0.0.1:", "tcp::80", "tcp:127.0.0.1:eighty", "tcp:127.0.0.1:65536", 4):
             with self.subTest(address), self.assertRaisesRegex(ValueError, "a worker's address is"):
                 self.load(line("f", Add("a")), workers=[address])
+
+    def test_without_a_book_long_values_go_to_a_worker_and_back(self):
+        self.start("unix:w.socket")
+        for book, size in ((None, 200_000), (None, 3_000_000), ("x.book", 20_000)):
+            store = {"one": [["y\n\"é"] * (size // 4), {"k": (1, {2})}]}
+            engine = self.load(line("f", Same("a")), store=store, workers=["unix:w.socket"], **({"book": book} if book else {}))
+            engine.run()
+            self.assertEqual(store["one"], engine.storage.get("a"))
+
+    def test_what_cannot_be_sent_is_told(self):
+        self.start("unix:w.socket")
+        for value, reason in ((object(), "the argument one of a is of the type builtins.object"),
+                              ("y" * 9_000_000, "the argument one of a has 9000009 bytes as JSON, above 8388608")):
+            engine = self.load(line("f", Same("a")), store={"one": value}, workers=["unix:w.socket"])
+            with self.assertRaisesRegex(TypeError, reason):
+                engine.run()
+        with self.assertRaisesRegex(exceptions.WrappedFailure, "NotKept: the result of a is of the type builtins.object"):
+            self.load(line("f", Odd("a")), workers=["unix:w.socket"]).run()
 
     def test_a_class_that_a_worker_has_not_is_told(self):
         self.start("unix:w.socket")

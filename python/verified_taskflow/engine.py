@@ -1,5 +1,6 @@
 """The engine: TaskFlow's interface over runs of the program."""
 
+import concurrent.futures
 import contextlib
 import functools
 import json
@@ -630,7 +631,7 @@ def _executor(options):
     given = options.get("executor")
     if given is None or isinstance(given, str) and given.lower() in ("thread", "threads", "threaded"):
         return None
-    if isinstance(given, str) or not hasattr(given, "submit"):
+    if isinstance(given, (str, concurrent.futures.ProcessPoolExecutor)) or not hasattr(given, "submit"):
         raise ValueError("tasks are performed in threads, not in %r" % (given,))
     return given
 
