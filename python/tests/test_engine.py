@@ -65,7 +65,7 @@ class Loading(Case):
         processes = concurrent.futures.ProcessPoolExecutor(1)
         self.addCleanup(processes.shutdown)
         for options in ({"hands": 0}, {"hands": 65}, {"executor": "processes"}, {"executor": processes}, {"never_resolve": True},
-                        {"workers": ["there"]}):
+                        {"workers": ["there"]}, {"book": ""}):
             with self.subTest(options), self.assertRaises(ValueError):
                 self.load(line("f", Give("a")), **options)
 

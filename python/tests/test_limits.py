@@ -1,9 +1,13 @@
 """What is long or much: names, hands, paths."""
 
 import os
+import pathlib
 import sys
 import unittest
+import unittest.mock
 
+import taskflow.engines
+from taskflow import exceptions
 from taskflow import states
 from taskflow import task
 from taskflow.patterns import graph_flow
@@ -11,6 +15,8 @@ from taskflow.patterns import graph_flow
 sys.path.insert(0, os.path.dirname(os.path.abspath(__file__)))
 from cases import Case, line  # noqa: E402
 from tasks_of_tests import Fail, Give, Note  # noqa: E402
+
+from verified_taskflow import books  # noqa: E402
 
 LONG = "cinder.volume.flows.manager.create_volume.CreateVolume%06d"
 
@@ -53,6 +59,28 @@ class Hands(Case):
         for options in ({"hands": 100}, {"max_workers": 0}):
             with self.assertRaises(ValueError):
                 self.load(line("f", Give("a")), **options)
+
+
+class Paths(Case):
+    def test_a_folder_that_sockets_cannot_have_is_passed_by(self):
+        good = os.path.abspath("good")
+        for name in ("with,comma", "d" * 80, "good"):
+            os.mkdir(name)
+        for bad in ("with,comma", "d" * 80, "nowhere"):
+            with unittest.mock.patch.object(books, "folders", lambda: (os.path.abspath(bad), good)):
+                engine = self.load(line("f", Give("a")))
+                engine.run()
+                self.assertEqual((good, states.SUCCESS), (os.path.dirname(engine._place.home.folder), engine.storage.get_flow_state()))
+        with unittest.mock.patch.object(books, "folders", lambda: (os.path.abspath("with,comma"),)):
+            with self.assertRaisesRegex(exceptions.StorageFailure, "with,comma"):
+                self.load(line("f", Give("a")))
+
+    def test_a_folder_is_no_book(self):
+        for path in ("", ".", pathlib.Path(""), os.getcwd()):
+            with self.assertRaisesRegex(ValueError, "a book is a file, not"):
+                self.load(line("f", Give("a")), book=path)
+        with self.assertRaisesRegex(ValueError, "a book is a file, not"):
+            taskflow.engines.load(line("f", Give("a")), engine="verified:?book=.")
 
 
 if __name__ == "__main__":

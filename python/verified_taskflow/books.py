@@ -10,22 +10,33 @@ import threading
 import time
 import weakref
 
+from taskflow import exceptions
 from taskflow.persistence import models
 from taskflow.types import failure
 
 _PREFIX = "verified-taskflow-"
+_BASE_LIMIT = 72
+"""The most bytes of a path in which a folder of ours has a socket: the kernel takes 107 for all."""
 STOP_TEXT = b"suspended by verified_taskflow\n"
+
+
+def path_of(given):
+    """The whole path (str) of a book's file. Raises ValueError for a folder, and for an empty path, which would mean the current one."""
+    path = os.fspath(given)
+    if not path or os.path.isdir(path):
+        raise ValueError("a book is a file, not %r" % path)
+    return os.path.abspath(path)
 
 
 class Book(models.LogBook):
     """A book of the program in the place of a logbook: `taskflow.engines.load(flow, engine="verified", book=Book(path))`.
 
     `path` (str or PathLike) is the file; it is made by the first run. A path may stand in its place where this package was
-    imported before."""
+    imported before. Raises ValueError for a folder."""
 
     def __init__(self, path):
-        super().__init__(os.path.basename(os.fspath(path)))
-        self.path = os.path.abspath(os.fspath(path))
+        self.path = path_of(path)
+        super().__init__(os.path.basename(self.path))
 
     def add(self, flow_detail):
         super().add(flow_detail)
@@ -37,11 +48,11 @@ class Book(models.LogBook):
 
 class Home:
     """A folder of mode 0700 for one flow detail: the flow file, the socket, what the program says on standard error, and the book
-    where none is kept. It is removed with this object. A lock tells that its process lives: folders that killed processes left are removed by
-    the next one."""
+    where none is kept. It is removed with this object. A lock tells that its process lives: folders that killed processes left are removed
+    by the next one. Raises StorageFailure where there is no place for it."""
 
     def __init__(self):
-        base = "/dev/shm" if os.access("/dev/shm", os.W_OK) else tempfile.gettempdir()
+        base = _base()
         _sweep(base)
         self.folder = tempfile.mkdtemp(prefix=_PREFIX, dir=base)
         lock = open(self.path("lock.new"), "w")
@@ -52,6 +63,20 @@ class Home:
     def path(self, name):
         """The path (str) of a file in the folder."""
         return os.path.join(self.folder, name)
+
+
+def folders():
+    """The folders (a tuple of paths) of which the first that will do has the homes: memory, where there is some, and else temporary ones."""
+    return "/dev/shm", tempfile.gettempdir(), "/tmp", "/var/tmp"
+
+
+def _base():
+    """A folder in which a socket may be. The program takes a list of addresses with commas between, each short enough for the kernel."""
+    for path in folders():
+        if os.access(path, os.W_OK | os.X_OK) and "," not in path and len(os.fsencode(path)) <= _BASE_LIMIT:
+            return path
+    raise exceptions.StorageFailure("sockets can be in none of %s: one must be writable, without a comma, and have at most %d bytes"
+                                    % (", ".join(folders()), _BASE_LIMIT))
 
 
 def _remove(folder, lock, process):

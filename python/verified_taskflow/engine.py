@@ -19,7 +19,7 @@ from taskflow.utils import misc
 from . import links
 from . import program
 from . import relaying
-from .books import Failures, Forms, Home, StopFile
+from .books import Failures, Forms, Home, StopFile, path_of
 from .flow_file import FlowFile, value_of
 from .plan import Atom, Plan
 from .recorder import Line, Recorder
@@ -112,7 +112,7 @@ class VerifiedEngine(base.Engine):
 
     def _find_place(self, flow_detail):
         book = getattr(flow_detail, "verified_book", None) or self._options.get("book")
-        book = os.path.abspath(os.fspath(book)) if book else None
+        book = path_of(book) if book is not None else None
         place = getattr(flow_detail, "verified_place", None)
         if place is None or book is not None and place.book != book:
             place = flow_detail.verified_place = Place(book, _truth(self._options.get("pickle")))
