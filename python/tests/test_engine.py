@@ -377,6 +377,32 @@ class Performing(Case):
                 for at in range(4):
                     self.assertTrue(engine.storage.get("t%d" % at).startswith(front))
 
+    def test_what_is_injected_for_an_atom_alone_comes_first(self):
+        def calls(engine, **options):
+            one, other, third = Note("a", requires=["x"]), Note("b", requires=["x", "y"], inject={"y": 1}), Note("c", requires=["x"])
+            loaded = taskflow.engines.load(line("f", one, other, third, Fail("d")), engine=engine, store={"x": 0}, **options)
+            loaded.compile()
+            loaded.prepare()
+            loaded.storage.inject_atom_args("a", {"x": [7]})
+            loaded.storage.inject_atom_args("b", {"x": 8, "y": 9}, transient=False)
+            with self.assertRaises(KeyError):
+                loaded.run()
+            return [one.calls, other.calls, third.calls]
+        for options in ({}, {"book": "x.book"}):
+            self.assertEqual(calls("serial"), calls("verified", **options))
+
+    def test_what_is_injected_for_an_atom_alone_is_given(self):
+        for transient in (True, False):
+            taker = Note("a", requires=["x"])
+            engine = self.load(line("f", taker))
+            engine.compile()
+            engine.prepare()
+            with self.assertRaises(exceptions.MissingDependencies):
+                engine.validate()
+            engine.storage.inject_atom_args("a", {"x": 7}, transient=transient)
+            engine.run()
+            self.assertEqual({"x": 7}, taker.calls[0][1])
+
     def test_priorities_and_default_arguments(self):
         order = []
 

@@ -160,8 +160,15 @@ class VerifiedEngine(base.Engine):
             if self._plan is None:
                 plan = self._make_plan()
                 with contextlib.suppress(exceptions.MissingDependencies):
-                    self._check(FlowFile(plan, self.storage.values(), self._place.texts), plan.root.name)
+                    self._check(self._written(plan), plan.root.name)
                 self._plan = plan
+
+    def _written(self, plan):
+        return FlowFile(plan, self.storage.values(), self._place.texts, self._injected)
+
+    def _injected(self, atom):
+        """What an atom takes from nobody: what it is made with, and what the user injected for it into the storage."""
+        return {**(atom.thing.inject or {}), **self.storage.injected(atom.name)}
 
     def _check(self, file, name):
         """Has the program check a flow file, so that what it refuses is refused before a run."""
@@ -222,7 +229,7 @@ class VerifiedEngine(base.Engine):
             if self._place.kept and self._place.begun:
                 self._file = self._file or _InBook()
             else:
-                self._file = FlowFile(self._plan, self.storage.values(), self._place.texts)
+                self._file = self._written(self._plan)
 
     @_checked(stored=False, validated=False)
     def suspend(self):
@@ -532,11 +539,11 @@ class VerifiedEngine(base.Engine):
 
     def _kwargs(self, atom, undoes, given):
         """The arguments of a method. Raises LookupError where one that isn't optional has no value."""
-        thing, kwargs = atom.thing, {}
+        thing, kwargs, injected = atom.thing, {}, self._injected(atom)
         rebind, optional = (thing.revert_rebind, thing.revert_optional) if undoes else (thing.rebind, thing.optional)
         for name, symbol in rebind.items():
-            if thing.inject and symbol in thing.inject:
-                kwargs[name] = thing.inject[symbol]
+            if symbol in injected:
+                kwargs[name] = injected[symbol]
                 continue
             try:
                 kwargs[name] = value_of(given, symbol, self._place.texts)

@@ -26,12 +26,14 @@ def _array(texts):
 
 
 class FlowFile:
-    """The flow file of a plan with the values of a store (a dict from symbols to values), made by `texts`.
+    """The flow file of a plan with the values of a store (a dict from symbols to values), made by `texts`; `injected` gives what an Atom takes
+    from nobody (a dict from symbols).
 
     `text` is the file, `stored` the texts of the store's values that it has (a dict from symbols). Raises MissingDependencies where nobody
     can give a symbol, and Unsupported where something has no form."""
 
-    def __init__(self, plan, store, texts):
+    def __init__(self, plan, store, texts, injected):
+        self._injected = {atom: injected(atom) for atom in plan.atoms}
         self._plan = plan
         self._store = store
         self._texts = texts
@@ -71,15 +73,14 @@ class FlowFile:
         return [name for name, symbol in rebind.items() if name not in optional and not self._is_given(atom, symbol)]
 
     def _is_given(self, atom, symbol):
-        return (bool(atom.thing.inject) and symbol in atom.thing.inject or symbol in self._store
-                or bool(self._plan.visible(symbol, atom)))
+        return symbol in self._injected[atom] or symbol in self._store or bool(self._plan.visible(symbol, atom))
 
     def _sources_of(self, atom):
         """From each symbol that an atom takes without injecting it to whether the store gives it, and not another's result."""
         thing, found = atom.thing, {}
         for rebind, optional in ((thing.rebind, thing.optional), (thing.revert_rebind, thing.revert_optional)):
             for symbol in rebind.values():
-                if not (thing.inject and symbol in thing.inject) and (symbol not in optional or self._is_given(atom, symbol)):
+                if symbol not in self._injected[atom] and (symbol not in optional or self._is_given(atom, symbol)):
                     found[symbol] = symbol in self._store
         return found
 
