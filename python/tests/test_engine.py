@@ -454,6 +454,19 @@ class Breaking(Case):
 
 
 class Leaving(Case):
+    def test_a_folder_goes_with_its_engine_and_needs_no_collector(self):
+        gc.disable()
+        self.addCleanup(gc.enable)
+        for hands, book in ((1, None), (3, None), (1, "x.book")):
+            before = len(os.listdir("/proc/self/fd"))
+            engine = self.load(line("f", Give("a")), hands=hands, book=book)
+            engine.run()
+            folder = engine._place.home.folder
+            self.assertTrue(os.path.isdir(folder))
+            del engine
+            self.assertFalse(os.path.exists(folder))
+            self.assertEqual(before, len(os.listdir("/proc/self/fd")))
+
     def test_what_a_killed_process_left_is_removed_and_what_a_living_one_has_is_not(self):
         text = ("import sys, os, verified_taskflow, taskflow.engines\n"
                 "from taskflow.patterns import linear_flow\n"

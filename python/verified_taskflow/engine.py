@@ -7,6 +7,7 @@ import json
 import os
 import threading
 import time
+import weakref
 
 import fasteners
 from taskflow import exceptions
@@ -128,7 +129,12 @@ class VerifiedEngine(base.Engine):
     @misc.cachedproperty
     def storage(self):
         """The storage: results, states and failures by the names of atoms and symbols."""
-        return Storage(self._flow_detail, self._backend, self._scopes_of)
+        engine = weakref.ref(self)
+
+        def scopes_of(name):
+            living = engine()
+            return living._scopes_of(name) if living is not None else None
+        return Storage(self._flow_detail, self._backend, scopes_of)
 
     @misc.cachedproperty
     def _full_compilation(self):
@@ -218,7 +224,8 @@ class VerifiedEngine(base.Engine):
         for atom in self._plan.atoms:
             if atom.thing.inject:
                 self.storage.inject_atom_args(atom.name, atom.thing.inject, transient=True)
-        self._recorder = Recorder(self, self._plan, self.storage, self._place.texts, self._place.failures)
+        # Neither the recorder nor the storage keeps the engine: its folder goes with it at once.
+        self._recorder = Recorder(weakref.proxy(self), self._plan, self.storage, self._place.texts, self._place.failures)
         self._stored = True
 
     @_checked(validated=False)

@@ -199,6 +199,7 @@ class Session:
         self._lines.clear()
         if self._pool is not None:
             self._pool.end(self._fault is None)
+            self._pool = None
         for link in self._links.values():
             link.close()
         keeper.close()
