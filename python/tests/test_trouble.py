@@ -19,7 +19,7 @@ sys.path.insert(0, os.path.dirname(os.path.abspath(__file__)))
 from cases import HERE, Case, line  # noqa: E402
 from tasks_of_tests import Fail, FailTwice, Give, Note  # noqa: E402
 
-from verified_taskflow import Broken, program  # noqa: E402
+from verified_taskflow import Broken, program, recorder  # noqa: E402
 
 PATIENCE = 20
 """How long, in seconds, a run may take before it counts as one that hangs."""
@@ -68,11 +68,10 @@ class Hanging(Limited):
 class Suspending(Limited):
     def test_a_suspension_before_the_first_line_suspends(self):
         def start(*words):
-            process = started(*words)
+            started(*words)
             while not any(text.endswith("task a RUNNING") for text in self.shown(engine._place.book, "show")):
                 time.sleep(0.01)
             engine.suspend()
-            return process
         first, second = Note("a"), Note("b")
         engine, started = self.load(line("f", first, second)), program.start
         with unittest.mock.patch.object(program, "start", start):
@@ -166,6 +165,90 @@ class Statuses(Case):
             write_program(text)
             with self.subTest(text), self.assertRaisesRegex(Broken, "without saying how"):
                 self.load(line("f", Give("a")), program=os.path.abspath("program")).run()
+
+
+def children():
+    """The processes (a set of int) that this one started and that live."""
+    found = set()
+    for name in os.listdir("/proc"):
+        if name.isdigit():
+            with contextlib.suppress(OSError), open("/proc/%s/stat" % name) as file:
+                state, parent = file.read().rpartition(")")[2].split()[:2]
+                if int(parent) == os.getpid() and state != "Z":
+                    found.add(int(name))
+    return found
+
+
+class Interruptions(Limited):
+    """An interruption wherever it comes: the run is broken off, leaves no process and no thread, and a further run loses nothing."""
+
+    def check(self, place, name, replacement, book, hands=1):
+        """Runs a flow while something is replaced that interrupts, and then again."""
+        begun = []
+
+        class Step(task.Task):
+            def execute(self):
+                begun.append(self.name)
+                return self.name
+        before, threads = children(), threading.active_count()
+        engine = self.load(line("f", *[Step(one, provides="of-" + one) for one in "abc"]), book=book, hands=hands)
+        with unittest.mock.patch.object(place, name, replacement), self.assertRaises(KeyboardInterrupt):
+            engine.run()
+        self.assertEqual((before, threads), (children(), threading.active_count()))
+        engine.run()
+        self.assertEqual((states.SUCCESS, {"of-" + one: one for one in "abc"}),
+                         (engine.storage.get_flow_state(), engine.storage.fetch_all()))
+        self.assertEqual(["a", "b", "c"], sorted(set(begun)))
+        return begun
+
+    def test_as_a_line_is_taken(self):
+        real = recorder.Recorder.take
+        for number in range(1, 9):
+            for first in (True, False):
+                for book in (None, "x%d%s.book" % (number, first)):
+                    def take(self, line, tells=True):
+                        if first or line.number != number:
+                            real(self, line, tells)
+                        if line.number == number:
+                            raise KeyboardInterrupt
+                    with self.subTest(number=number, first=first, book=book):
+                        begun = self.check(recorder.Recorder, "take", take, book)
+                        self.assertLessEqual(len(begun), 4)
+
+    def test_as_a_program_is_started(self):
+        real = subprocess.Popen
+
+        def popen(words, **options):
+            process = real(words, **options)
+            if words[1] in ("run", "resume"):
+                os.kill(os.getpid(), signal.SIGINT)
+            return process
+        for book in (None, "x.book"):
+            self.check(subprocess, "Popen", popen, book)
+
+    def test_as_the_holder_is_started(self):
+        real, calls = signal.pthread_sigmask, []
+
+        def mask(how, signals):
+            found = real(how, signals)
+            if how == signal.SIG_BLOCK and len(signals) > 3:
+                calls.append(how)
+            if how == signal.SIG_SETMASK and calls:
+                raise KeyboardInterrupt
+            return found
+        self.check(signal, "pthread_sigmask", mask, "x.book")
+        self.assertEqual(1, len(calls))
+
+    def test_as_threads_are_started(self):
+        real, started = threading.Thread.start, []
+
+        def start(self):
+            if self.name.startswith("taskflow-hand"):
+                started.append(self)
+                if len(started) == 2:
+                    raise KeyboardInterrupt
+            real(self)
+        self.check(threading.Thread, "start", start, "x.book", hands=3)
 
 
 if __name__ == "__main__":

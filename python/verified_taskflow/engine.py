@@ -354,8 +354,8 @@ class VerifiedEngine(base.Engine):
     def _run_elsewhere(self):
         """The end of a run in which the program had nothing to do: another engine ended the flow in the book meanwhile."""
         self._look()
-        held, self._place.held = self._place.held, []
-        self.catch_up(held)
+        self.catch_up(self._place.held)
+        self._place.held = []
         if self._place.ended:
             yield from self._run_ended()
         else:
@@ -374,7 +374,7 @@ class VerifiedEngine(base.Engine):
             place.seen, place.held = session.seen, session.held
             place.begun = place.begun or session.seen > 0
             place.ended = session.status in (program.SUCCESS, program.FAILURE)
-            place.unsure = session.status not in program.ENDS
+            place.unsure = session.status not in program.ENDS or _has_flow(place.held)
             place.stop.clear()
         return session
 
@@ -435,11 +435,11 @@ class VerifiedEngine(base.Engine):
         if self._place.kept:
             self._compare()
         new = [line for line in _entries(lines) if line.number > place.seen]
-        if place.begun and not any(line.kind == "flow" for line in new):
+        if place.begun and not _has_flow(place.held + new):
             place.held += new
         else:
-            held, place.held = place.held, []
-            self.catch_up(held + new)
+            self.catch_up(place.held + new)
+            place.held = []
         place.begun = True
         place.ended = any(text.startswith("state ") and text.split(" ")[2] in (states.SUCCESS, states.FAILURE) for text in lines)
         place.seen = new[-1].number if new else place.seen
@@ -612,6 +612,11 @@ class VerifiedEngine(base.Engine):
 
 
 _SUCCESS = b'"result":%b,"state":"SUCCESS"'
+
+
+def _has_flow(lines):
+    """Whether a line is of the flow's own states: it is held only where its run was broken off, or another engine ran the flow."""
+    return any(line.kind == "flow" for line in lines)
 
 
 def _entries(lines):

@@ -53,10 +53,10 @@ def _deaf():
         signal.pthread_sigmask(signal.SIG_SETMASK, before)
 
 
-def start(words, errors, keep):
-    """Starts the program with these words (a list of str). Its standard error goes to the file `errors`, and it inherits the file
-    descriptors `keep`. It is killed when the thread that started it ends, so that it never outlives this process, and hears no signal that
-    asks it to end."""
+def start(words, errors, keep, hold):
+    """Starts the program with these words (a list of str), and gives its process to `hold`, before an interruption can come between. Its
+    standard error goes to the file `errors`, and it inherits the file descriptors `keep`. It is killed when the thread that started it
+    ends, so that it never outlives this process, and hears no signal that asks it to end."""
     parent = os.getpid()
 
     def die_with_parent():
@@ -65,8 +65,8 @@ def start(words, errors, keep):
             os._exit(1)
 
     with open(errors, "wb") as file, _deaf():
-        return subprocess.Popen(words, stdin=subprocess.DEVNULL, stdout=subprocess.PIPE, stderr=file, pass_fds=keep,
-                                preexec_fn=die_with_parent, bufsize=0)
+        hold(subprocess.Popen(words, stdin=subprocess.DEVNULL, stdout=subprocess.PIPE, stderr=file, pass_fds=keep,
+                              preexec_fn=die_with_parent, bufsize=0))
 
 
 def ask(words, front):
@@ -105,6 +105,9 @@ class Holder:
 
     def __init__(self):
         self._child = None
+
+    def start(self):
+        """Makes it. Whoever is interrupted here has it already, and ends it."""
         number = _CLONE.get(os.uname().machine)
         if number is None:
             return
@@ -118,8 +121,8 @@ class Holder:
                 leave(1)
             while True:
                 wait()
-        signal.pthread_sigmask(signal.SIG_SETMASK, before)
         self._child = child if child > 0 else None
+        signal.pthread_sigmask(signal.SIG_SETMASK, before)
 
     def end(self):
         """Ends it."""

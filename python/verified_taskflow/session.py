@@ -77,6 +77,9 @@ class Hands:
         self._perform = perform
         self._abort = abort
         self._threads = [threading.Thread(target=self._work, daemon=True, name="taskflow-hand-%d" % at) for at in range(count)]
+
+    def start(self):
+        """Starts the threads. Where that is interrupted, `end` ends those that were."""
         for thread in self._threads:
             thread.start()
 
@@ -98,8 +101,9 @@ class Hands:
         """Ends the threads once they have done what they are at; waits for that where `waits`."""
         for _ in self._threads:
             self._jobs.put(None)
-        for thread in self._threads if waits else ():
-            thread.join()
+        for thread in self._threads:
+            if waits and thread.ident is not None:
+                thread.join()
 
 
 class Session:
@@ -115,6 +119,7 @@ class Session:
         self._home = home
         self._hands = hands
         self._lines = collections.deque()
+        self._current = ()
         self._came = b""
         self.held = held
         self.seen = self.began = seen
@@ -161,12 +166,14 @@ class Session:
         try:
             worker = ",".join(["unix:" + self._home.path("s")] * self._hands)
             keep = (theirs.fileno(), door.fileno())
-            self._process = program.start([words[0], words[1], "--worker", worker] + words[2:], errors, keep)
+            program.start([words[0], words[1], "--worker", worker] + words[2:], errors, keep, self._hold)
             self._holder = program.Holder()
+            self._holder.start()
             theirs.close()
             self._output = self._process.stdout.fileno()
             if self._hands > 1:
                 self._pool = Hands(self._hands, self._host.perform, self.abort)
+                self._pool.start()
             self._keeper = ours
             yield from self._go_on(door)
         finally:
@@ -176,6 +183,9 @@ class Session:
             raise self._fault
         with open(errors, "rb") as file:
             self.errors = file.read().decode("utf-8", "replace")
+
+    def _hold(self, process):
+        self._process = process
 
     def _open_door(self):
         door = socket.socket(socket.AF_UNIX)
@@ -195,8 +205,7 @@ class Session:
             self._process.stdout.close()
         if self._holder is not None:
             self._holder.end()
-        self.held.extend(self._lines)
-        self._lines.clear()
+        self._hold_lines()
         if self._pool is not None:
             self._pool.end(self._fault is None)
             self._pool = None
@@ -204,6 +213,13 @@ class Session:
             link.close()
         keeper.close()
         door.close()
+
+    def _hold_lines(self):
+        """Holds the lines that weren't taken, with the one whose taking was interrupted: that is taken again."""
+        left = {line.number: line for line in [*self.held, *self._current, *self._lines]}
+        self.held = [left[number] for number in sorted(left)]
+        self.seen = max(self.seen, *left, 0)
+        self._lines.clear()
 
     def _go_on(self, door):
         self._all, self._ends = select.poll(), select.poll()
@@ -251,8 +267,8 @@ class Session:
                 line = Line(text.decode())
                 if self.seen == self.began and line.number > self.seen + 1:
                     self._catch_up(line.number)
-                self.seen = line.number
                 self._lines.append(line)
+                self.seen = line.number
             else:
                 self.said = text.decode()
                 self._ended = self.said if self.said.startswith("end ") else self._ended
@@ -260,8 +276,8 @@ class Session:
 
     def _catch_up(self, number):
         """Takes the entries before the first one of this run: another run recorded them while this one waited for the book."""
-        held, self.held = self.held, []
-        self._host.catch_up(held + self._host.missed(self.seen, number))
+        self._host.catch_up(self.held + self._host.missed(self.seen, number))
+        self.held = []
 
     def _read_request(self, link):
         try:
@@ -286,7 +302,8 @@ class Session:
         while self._lines:
             line = self._lines[0]
             if self.stops and not self._goes_through(line):
-                self.held.append(self._lines.popleft())
+                self.held.append(line)
+                self._lines.popleft()
                 continue
             if line.is_start() and self._phase != states.SCHEDULING:
                 if self._phase is None:
@@ -298,7 +315,10 @@ class Session:
                 self._phase = states.ANALYZING
                 yield states.WAITING
                 yield states.ANALYZING
-            self._take(self._lines.popleft())
+            self._current = (line,)
+            self._lines.popleft()
+            self._take(line)
+            self._current = ()
 
     def _goes_through(self, line):
         """Whether a line is taken although the run is to stop: the end of what is at work, and what the flow says."""
