@@ -2,6 +2,7 @@
 
 import collections
 import concurrent.futures
+import contextlib
 import gc
 import os
 import pathlib
@@ -454,18 +455,35 @@ class Breaking(Case):
 
 
 class Leaving(Case):
-    def test_a_folder_goes_with_its_engine_and_needs_no_collector(self):
+    def test_a_folder_goes_with_its_run_and_needs_no_collector(self):
         gc.disable()
         self.addCleanup(gc.enable)
-        for hands, book in ((1, None), (3, None), (1, "x.book")):
-            before = len(os.listdir("/proc/self/fd"))
-            engine = self.load(line("f", Give("a")), hands=hands, book=book)
-            engine.run()
-            folder = engine._place.home.folder
-            self.assertTrue(os.path.isdir(folder))
-            del engine
-            self.assertFalse(os.path.exists(folder))
-            self.assertEqual(before, len(os.listdir("/proc/self/fd")))
+        for hands, book, last in ((1, None, Give), (3, None, Give), (1, "x.book", Give), (1, None, Fail), (3, "y.book", Fail)):
+            with self.subTest(hands=hands, book=book, last=last):
+                before, folders = len(os.listdir("/proc/self/fd")), []
+                engine = self.load(line("f", Give("a"), last("b")), hands=hands, book=book)
+                engine.atom_notifier.register(states.SUCCESS, lambda state, details: folders.append(engine._place.home.folder))
+                for _ in range(2):
+                    with contextlib.suppress(KeyError):
+                        engine.run()
+                    self.assertEqual([False] * len(folders), list(map(os.path.exists, folders)))
+                    self.assertEqual(before, len(os.listdir("/proc/self/fd")))
+                self.assertEqual(2, len(folders))
+
+    def test_a_folder_goes_with_an_engine_that_is_suspended(self):
+        gc.disable()
+        self.addCleanup(gc.enable)
+        engine = self.load(line("f", Give("a"), Give("b"), Give("c")), hands=3)
+        for _ in range(2):
+            steps = engine.run_iter()
+            for state in steps:
+                if state == states.WAITING:
+                    break
+            steps.close()
+        folder = engine._place.home.folder
+        self.assertTrue(os.path.exists(folder + "/book"))
+        del steps, engine
+        self.assertFalse(os.path.exists(folder))
 
     def test_what_a_killed_process_left_is_removed_and_what_a_living_one_has_is_not(self):
         text = ("import sys, os, verified_taskflow, taskflow.engines\n"

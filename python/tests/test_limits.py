@@ -73,7 +73,7 @@ class Paths(Case):
                 self.assertEqual((good, states.SUCCESS), (os.path.dirname(engine._place.home.folder), engine.storage.get_flow_state()))
         with unittest.mock.patch.object(books, "folders", lambda: (os.path.abspath("with,comma"),)):
             with self.assertRaisesRegex(exceptions.StorageFailure, "with,comma"):
-                self.load(line("f", Give("a")))
+                self.load(line("f", Give("a"))).compile()
 
     def test_a_folder_is_no_book(self):
         for path in ("", ".", pathlib.Path(""), os.getcwd()):

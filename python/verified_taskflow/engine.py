@@ -39,14 +39,37 @@ class Place:
     It stands on the flow detail, so that a further engine of the same flow detail goes on from there."""
 
     def __init__(self, book, pickled):
-        self.home = Home()
+        self._home = None
+        self._book = book
         self.kept = book is not None
-        self.book = book or self.home.path("book")
         self.texts = Texts(self.kept, pickled)
-        self.failures = Failures(self.book + ".failures" if self.kept else None)
-        self.stop = StopFile(self.book)
-        self.forms = Forms(self.book + ".forms") if self.kept else None
+        self.failures = Failures(book + ".failures" if self.kept else None)
+        self.forms = Forms(book + ".forms") if self.kept else None
         self.forget()
+
+    @property
+    def home(self):
+        """The folder of the runs. It is made when it is first asked for, and anew behind `rest`."""
+        if self._home is None:
+            self._home = Home()
+        return self._home
+
+    @property
+    def book(self):
+        """The path (str) of the book: the one that is kept, or one in the folder."""
+        return self._book or self.home.path("book")
+
+    @property
+    def stop(self):
+        """The file that asks the run to stop."""
+        return StopFile(self.book)
+
+    def rest(self, is_done):
+        """Removes the folder behind a run where nothing in it is needed any more: the book is kept elsewhere, or `is_done`. That mustn't wait
+        for the collector, since the tracebacks of failures hold the engine."""
+        if self._home is not None and (self.kept or is_done):
+            self._home.remove()
+            self._home = None
 
     def forget(self):
         """Takes the flow as one that no run began."""
@@ -59,8 +82,7 @@ class Place:
 
     def drop(self):
         """Forgets the runs of a book that isn't kept."""
-        with contextlib.suppress(FileNotFoundError):
-            os.unlink(self.book)
+        self.rest(True)
         self.forget()
 
 
@@ -328,6 +350,8 @@ class VerifiedEngine(base.Engine):
         finally:
             if self._relays is not None:
                 self._relays.close()
+            place = self._place
+            place.rest(not place.unsure and (place.ended or self.storage.get_flow_state() == states.REVERTED))
 
     def _run_sessions(self):
         for wait in program.WAITS:
