@@ -1,5 +1,7 @@
 """Task classes that the tests run, here and in workers."""
 
+import os
+
 from taskflow import task
 
 
@@ -35,6 +37,22 @@ class Fail(task.Task):
         raise KeyError("the disk is full")
 
 
+class FailTwice(Fail):
+    """Fails where it is undone, too."""
+
+    def revert(self, **values):
+        raise KeyError("the disk is still full")
+
+
+class Die(task.Task):
+    """Ends its process, behind a line in the file `path`."""
+
+    def execute(self, path):
+        with open(path, "a") as file:
+            file.write("begun\n")
+        os._exit(9)
+
+
 class Add(task.Task):
     def execute(self, one, other=1):
         return one + other
@@ -47,3 +65,17 @@ class Add(task.Task):
 class Sum(task.Task):
     def execute(self, **values):
         return sum(values.values())
+
+
+class Same(task.Task):
+    """Gives what it takes."""
+
+    def execute(self, one):
+        return one
+
+
+class Odd(task.Task):
+    """Gives what is no JSON."""
+
+    def execute(self):
+        return object()

@@ -2,52 +2,28 @@
 
 import collections
 import concurrent.futures
+import contextlib
 import gc
 import os
 import pathlib
 import subprocess
 import sys
-import tempfile
 import threading
 import time
 import unittest
 
 import taskflow.engines
-import verified_taskflow
 from taskflow import exceptions
 from taskflow import retry
 from taskflow import states
 from taskflow import task
-from taskflow.patterns import graph_flow, linear_flow, unordered_flow
+from taskflow.patterns import graph_flow, unordered_flow
 from verified_taskflow import Broken, Unsupported, test
 from verified_taskflow import names, values
 
-HERE = os.path.dirname(os.path.abspath(__file__))
-sys.path.insert(0, HERE)
-from tasks_of_tests import Add, Fail, Give, Note  # noqa: E402
-
-SITE = str(pathlib.Path(verified_taskflow.__file__).resolve().parent.parent)
-PROGRAM = os.environ["TASKFLOW_PROGRAM"]
-
-
-class Case(unittest.TestCase):
-    def setUp(self):
-        self.folder = tempfile.TemporaryDirectory()
-        self.addCleanup(self.folder.cleanup)
-        before = os.getcwd()
-        os.chdir(self.folder.name)
-        self.addCleanup(os.chdir, before)
-
-    def load(self, flow, **kwargs):
-        return taskflow.engines.load(flow, engine="verified", **kwargs)
-
-    def shown(self, book, *words):
-        done = subprocess.run([PROGRAM, *(words or ("show",)), book], stdout=subprocess.PIPE)
-        return done.stdout.decode().splitlines()
-
-
-def line(name, *items, **kwargs):
-    return linear_flow.Flow(name, **kwargs).add(*items)
+sys.path.insert(0, os.path.dirname(os.path.abspath(__file__)))
+from cases import HERE, PROGRAM, SITE, Case, line  # noqa: E402
+from tasks_of_tests import Fail, Give, Note  # noqa: E402
 
 
 def make_flow():
@@ -87,7 +63,10 @@ class Loading(Case):
         self.assertIn("state f SUCCESS", self.shown("x.book"))
 
     def test_bad_options_are_refused(self):
-        for options in ({"hands": 0}, {"hands": 65}, {"executor": "processes"}, {"never_resolve": True}, {"workers": ["there"]}):
+        processes = concurrent.futures.ProcessPoolExecutor(1)
+        self.addCleanup(processes.shutdown)
+        for options in ({"hands": 0}, {"hands": 65}, {"executor": "processes"}, {"executor": processes}, {"never_resolve": True},
+                        {"workers": ["there"]}, {"book": ""}):
             with self.subTest(options), self.assertRaises(ValueError):
                 self.load(line("f", Give("a")), **options)
 
@@ -297,6 +276,13 @@ class Books(Case):
                 .stdout.decode() for word, seed in (("first", "1"), ("second", "2"))]
         self.assertEqual(["SUSPENDED None\n", "SUCCESS %d\n" % (8 * 130 + 28)], said)
 
+    def test_the_book_and_its_failures_are_the_users_alone(self):
+        before = os.umask(0)
+        self.addCleanup(os.umask, before)
+        with self.assertRaises(KeyError):
+            self.load(line("f", Fail("a")), book="x.book").run()
+        self.assertEqual([0o600] * 2, [os.stat(name).st_mode & 0o777 for name in ("x.book", "x.book.failures")])
+
     def test_failures_of_several_hands_keep_apart(self):
         class Odd(task.Task):
             def execute(self):
@@ -392,6 +378,32 @@ class Performing(Case):
                 for at in range(4):
                     self.assertTrue(engine.storage.get("t%d" % at).startswith(front))
 
+    def test_what_is_injected_for_an_atom_alone_comes_first(self):
+        def calls(engine, **options):
+            one, other, third = Note("a", requires=["x"]), Note("b", requires=["x", "y"], inject={"y": 1}), Note("c", requires=["x"])
+            loaded = taskflow.engines.load(line("f", one, other, third, Fail("d")), engine=engine, store={"x": 0}, **options)
+            loaded.compile()
+            loaded.prepare()
+            loaded.storage.inject_atom_args("a", {"x": [7]})
+            loaded.storage.inject_atom_args("b", {"x": 8, "y": 9}, transient=False)
+            with self.assertRaises(KeyError):
+                loaded.run()
+            return [one.calls, other.calls, third.calls]
+        for options in ({}, {"book": "x.book"}):
+            self.assertEqual(calls("serial"), calls("verified", **options))
+
+    def test_what_is_injected_for_an_atom_alone_is_given(self):
+        for transient in (True, False):
+            taker = Note("a", requires=["x"])
+            engine = self.load(line("f", taker))
+            engine.compile()
+            engine.prepare()
+            with self.assertRaises(exceptions.MissingDependencies):
+                engine.validate()
+            engine.storage.inject_atom_args("a", {"x": 7}, transient=transient)
+            engine.run()
+            self.assertEqual({"x": 7}, taker.calls[0][1])
+
     def test_priorities_and_default_arguments(self):
         order = []
 
@@ -443,6 +455,36 @@ class Breaking(Case):
 
 
 class Leaving(Case):
+    def test_a_folder_goes_with_its_run_and_needs_no_collector(self):
+        gc.disable()
+        self.addCleanup(gc.enable)
+        for hands, book, last in ((1, None, Give), (3, None, Give), (1, "x.book", Give), (1, None, Fail), (3, "y.book", Fail)):
+            with self.subTest(hands=hands, book=book, last=last):
+                before, folders = len(os.listdir("/proc/self/fd")), []
+                engine = self.load(line("f", Give("a"), last("b")), hands=hands, book=book)
+                engine.atom_notifier.register(states.SUCCESS, lambda state, details: folders.append(engine._place.home.folder))
+                for _ in range(2):
+                    with contextlib.suppress(KeyError):
+                        engine.run()
+                    self.assertEqual([False] * len(folders), list(map(os.path.exists, folders)))
+                    self.assertEqual(before, len(os.listdir("/proc/self/fd")))
+                self.assertEqual(2, len(folders))
+
+    def test_a_folder_goes_with_an_engine_that_is_suspended(self):
+        gc.disable()
+        self.addCleanup(gc.enable)
+        engine = self.load(line("f", Give("a"), Give("b"), Give("c")), hands=3)
+        for _ in range(2):
+            steps = engine.run_iter()
+            for state in steps:
+                if state == states.WAITING:
+                    break
+            steps.close()
+        folder = engine._place.home.folder
+        self.assertTrue(os.path.exists(folder + "/book"))
+        del steps, engine
+        self.assertFalse(os.path.exists(folder))
+
     def test_what_a_killed_process_left_is_removed_and_what_a_living_one_has_is_not(self):
         text = ("import sys, os, verified_taskflow, taskflow.engines\n"
                 "from taskflow.patterns import linear_flow\n"
@@ -531,53 +573,6 @@ class Deciding(Case):
     def test_a_decider_that_raises_breaks_the_run_off(self):
         with self.assertRaises(ZeroDivisionError):
             self.outcome(lambda history: 1 // 0, 3)
-
-
-class Workers(Case):
-    def start(self, address):
-        environment = dict(os.environ, PYTHONPATH="%s:%s" % (SITE, HERE))
-        words = [sys.executable, "-m", "verified_taskflow.worker", "tasks_of_tests", "--address", address]
-        process = subprocess.Popen(words, stdout=subprocess.PIPE, env=environment)
-        self.addCleanup(process.stdout.close)
-        self.addCleanup(process.wait)
-        self.addCleanup(process.kill)
-        self.assertEqual(b"listening at %b\n" % address.encode(), process.stdout.readline())
-        return process
-
-    def test_tasks_are_performed_elsewhere(self):
-        self.start("unix:w.socket")
-        self.assertEqual(0o600, os.stat("w.socket").st_mode & 0o777)
-        flow = line("f", unordered_flow.Flow("u").add(Add("a", provides="x"), Add("b", provides="y", rebind={"one": "n"})),
-                    Add("c", rebind={"one": "x", "other": "y"}, provides="z"), Fail("d"))
-        engine = self.load(flow, store={"one": 1, "n": 10}, book="x.book", workers=["unix:w.socket", "unix:w.socket"])
-        with self.assertRaises(exceptions.WrappedFailure) as caught:
-            engine.run()
-        self.assertIn("KeyError: 'the disk is full'", str(caught.exception))
-        self.assertEqual({"2 11 13", "1 1 2", "10 1 11"},
-                         {row.split(" [")[0] for row in pathlib.Path("undone").read_text().splitlines()})
-        self.assertIn("Failure: KeyError", pathlib.Path("undone").read_text())
-
-    def test_a_lost_worker_fails_its_task(self):
-        process = self.start("unix:w.socket")
-        engine = self.load(line("f", Add("a"), Add("b")), store={"one": 1}, workers=["unix:w.socket"])
-        steps = engine.run_iter()
-        while next(steps) != states.WAITING:
-            pass
-        process.kill()
-        process.wait()
-        with self.assertRaises(exceptions.ExecutionFailure) as caught:
-            list(steps)
-        self.assertIn("b was lost at the worker unix:w.socket", str(caught.exception))
-        with self.assertRaises(exceptions.ExecutionFailure):
-            self.load(line("g", Add("a")), store={"one": 1}, workers=["unix:w.socket"]).run()
-
-    def test_a_class_without_a_name_is_refused(self):
-        class Local(task.Task):
-            def execute(self):
-                pass
-        with self.assertRaises(Unsupported) as caught:
-            self.load(line("f", Local("a")), workers=["unix:w.socket"]).compile()
-        self.assertIn("module:Class", str(caught.exception))
 
 
 if __name__ == "__main__":

@@ -10,22 +10,33 @@ import threading
 import time
 import weakref
 
+from taskflow import exceptions
 from taskflow.persistence import models
 from taskflow.types import failure
 
 _PREFIX = "verified-taskflow-"
+_BASE_LIMIT = 72
+"""The most bytes of a path in which a folder of ours has a socket: the kernel takes 107 for all."""
 STOP_TEXT = b"suspended by verified_taskflow\n"
+
+
+def path_of(given):
+    """The whole path (str) of a book's file. Raises ValueError for a folder, and for an empty path, which would mean the current one."""
+    path = os.fspath(given)
+    if not path or os.path.isdir(path):
+        raise ValueError("a book is a file, not %r" % path)
+    return os.path.abspath(path)
 
 
 class Book(models.LogBook):
     """A book of the program in the place of a logbook: `taskflow.engines.load(flow, engine="verified", book=Book(path))`.
 
     `path` (str or PathLike) is the file; it is made by the first run. A path may stand in its place where this package was
-    imported before."""
+    imported before. Raises ValueError for a folder."""
 
     def __init__(self, path):
-        super().__init__(os.path.basename(os.fspath(path)))
-        self.path = os.path.abspath(os.fspath(path))
+        self.path = path_of(path)
+        super().__init__(os.path.basename(self.path))
 
     def add(self, flow_detail):
         super().add(flow_detail)
@@ -37,11 +48,11 @@ class Book(models.LogBook):
 
 class Home:
     """A folder of mode 0700 for one flow detail: the flow file, the socket, what the program says on standard error, and the book
-    where none is kept. It is removed with this object. A lock tells that its process lives: folders that killed processes left are removed by
-    the next one."""
+    where none is kept. It is removed with this object. A lock tells that its process lives: folders that killed processes left are removed
+    by the next one. Raises StorageFailure where there is no place for it."""
 
     def __init__(self):
-        base = "/dev/shm" if os.access("/dev/shm", os.W_OK) else tempfile.gettempdir()
+        base = _base()
         _sweep(base)
         self.folder = tempfile.mkdtemp(prefix=_PREFIX, dir=base)
         lock = open(self.path("lock.new"), "w")
@@ -52,6 +63,20 @@ class Home:
     def path(self, name):
         """The path (str) of a file in the folder."""
         return os.path.join(self.folder, name)
+
+
+def folders():
+    """The folders (a tuple of paths) of which the first that will do has the homes: memory, where there is some, and else temporary ones."""
+    return "/dev/shm", tempfile.gettempdir(), "/tmp", "/var/tmp"
+
+
+def _base():
+    """A folder in which a socket may be. The program takes a list of addresses with commas between, each short enough for the kernel."""
+    for path in folders():
+        if os.access(path, os.W_OK | os.X_OK) and "," not in path and len(os.fsencode(path)) <= _BASE_LIMIT:
+            return path
+    raise exceptions.StorageFailure("sockets can be in none of %s: one must be writable, without a comma, and have at most %d bytes"
+                                    % (", ".join(folders()), _BASE_LIMIT))
 
 
 def _remove(folder, lock, process):
@@ -80,7 +105,7 @@ def _sweep_folder(folder):
 
 class Failures:
     """The failures of a book's tasks. The book has of each its number, counted from 1; the file BOOK`.failures` beside it has a line
-    of JSON for each, which is on the disk before the book has the number. Without a path they stay in this process.
+    of JSON for each, which is on the disk before the book has the number; its mode is 0600. Without a path they stay in this process.
 
     A failure of this process is kept as it is, with its traceback; of another process's there are the type, the message and the
     traceback as text."""
@@ -112,7 +137,7 @@ class Failures:
             return number
 
     def _write(self, line, front):
-        with open(self._path, "ab") as file:
+        with open(self._path, "ab", opener=_open_private) as file:
             file.write(front + line + b"\n")
             file.flush()
             os.fsync(file.fileno())
@@ -132,6 +157,49 @@ class Failures:
         except (ValueError, KeyError, TypeError):
             return None
         return self._here[number]
+
+
+class Forms:
+    """What the flows of a book were begun with: the file BOOK`.forms` beside it, of mode 0600, has a line of JSON for each begin, of which
+    the last of a flow's name counts. The book has all of it too; this is what this package compares and tells."""
+
+    def __init__(self, path):
+        self._path = path
+
+    def find(self, name):
+        """What a flow was begun with: its form (str) and its store (a dict from symbols to texts); or None where that isn't known."""
+        found = None
+        for line in self._lines():
+            try:
+                words = json.loads(line)
+                if words["flow"] == name:
+                    found = (words["form"], dict(words["store"])) if words["form"] else None
+            except (ValueError, KeyError, TypeError):
+                # A line that a crash cut off says nothing.
+                continue
+        return found
+
+    def _lines(self):
+        if not os.path.exists(self._path):
+            return []
+        with open(self._path, "rb") as file:
+            return file.read().splitlines()
+
+    def add(self, name, form, store):
+        """Keeps what a flow was begun with."""
+        with open(self._path, "ab", opener=_open_private) as file:
+            front = b"\n" if file.tell() and not _ends_whole(self._path) else b""
+            file.write(front + json.dumps({"flow": name, "form": form, "store": store}).encode() + b"\n")
+
+    def forget(self, name):
+        """Forgets a flow that the book hasn't: another book stood at this path before."""
+        if self.find(name) is not None:
+            self.add(name, None, {})
+
+
+def _open_private(path, flags):
+    """A file that the user alone may read, as the book is: messages and tracebacks may tell a secret."""
+    return os.open(path, flags, 0o600)
 
 
 def _line_of(fault):

@@ -1,11 +1,13 @@
 """The engine: TaskFlow's interface over runs of the program."""
 
+import concurrent.futures
 import contextlib
 import functools
 import json
 import os
 import threading
 import time
+import weakref
 
 import fasteners
 from taskflow import exceptions
@@ -15,9 +17,10 @@ from taskflow.types import failure
 from taskflow.types import notifier
 from taskflow.utils import misc
 
+from . import links
 from . import program
 from . import relaying
-from .books import Failures, Home, StopFile
+from .books import Failures, Forms, Home, StopFile, path_of
 from .flow_file import FlowFile, value_of
 from .plan import Atom, Plan
 from .recorder import Line, Recorder
@@ -26,34 +29,60 @@ from .storage import Storage
 from .values import NotKept, Texts
 
 HAND_LIMIT = 64
+_NO_FLOW = "taskflow: no flow: "
+"""What the program says where a book hasn't the flow that is to be shown."""
 
 
 class Place:
-    """Where the runs of one flow detail are: its folder, its book, and how far its lines were taken.
+    """Where the runs of one flow detail are: its folder, its book, which plan began there, and how far its lines were taken.
 
     It stands on the flow detail, so that a further engine of the same flow detail goes on from there."""
 
     def __init__(self, book, pickled):
-        self.home = Home()
+        self._home = None
+        self._book = book
         self.kept = book is not None
-        self.book = book or self.home.path("book")
         self.texts = Texts(self.kept, pickled)
-        self.failures = Failures(self.book + ".failures" if self.kept else None)
-        self.stop = StopFile(self.book)
+        self.failures = Failures(book + ".failures" if self.kept else None)
+        self.forms = Forms(book + ".forms") if self.kept else None
         self.forget()
+
+    @property
+    def home(self):
+        """The folder of the runs. It is made when it is first asked for, and anew behind `rest`."""
+        if self._home is None:
+            self._home = Home()
+        return self._home
+
+    @property
+    def book(self):
+        """The path (str) of the book: the one that is kept, or one in the folder."""
+        return self._book or self.home.path("book")
+
+    @property
+    def stop(self):
+        """The file that asks the run to stop."""
+        return StopFile(self.book)
+
+    def rest(self, is_done):
+        """Removes the folder behind a run where nothing in it is needed any more: the book is kept elsewhere, or `is_done`. That mustn't wait
+        for the collector, since the tracebacks of failures hold the engine."""
+        if self._home is not None and (self.kept or is_done):
+            self._home.remove()
+            self._home = None
 
     def forget(self):
         """Takes the flow as one that no run began."""
         self.begun = False
         self.ended = False
+        self.plan = None
         self.unsure = self.kept
         self.seen = 0
         self.held = []
 
     def drop(self):
         """Forgets the runs of a book that isn't kept."""
-        with contextlib.suppress(FileNotFoundError):
-            os.unlink(self.book)
+        self.rest(True)
         self.forget()
 
 
@@ -79,7 +108,7 @@ class VerifiedEngine(base.Engine):
 
     - `book` (path): the book that keeps the run; `taskflow.engines.load` hands it on as the flow detail's. Without one nothing
       outlives this process.
-    - `hands` (int, 1 to 64; else `max_workers`, else 1): how many tasks may be at work at the same time. One hand performs in the
+    - `hands` (int, 1 to 64; else `max_workers`, at most 64, else 1): how many tasks may be at work at the same time. One hand performs in the
       thread that calls `run`, several in threads of their own, or in `executor`, where that is an object with `submit`.
     - `pickle` (bool): whether results that are no JSON are pickled into a kept book.
     - `workers` (list of addresses, `unix:PATH` or `tcp:127.0.0.1:PORT`): processes that perform in place of this one.
@@ -106,7 +135,7 @@ class VerifiedEngine(base.Engine):
 
     def _find_place(self, flow_detail):
         book = getattr(flow_detail, "verified_book", None) or self._options.get("book")
-        book = os.path.abspath(os.fspath(book)) if book else None
+        book = path_of(book) if book is not None else None
         place = getattr(flow_detail, "verified_place", None)
         if place is None or book is not None and place.book != book:
             place = flow_detail.verified_place = Place(book, _truth(self._options.get("pickle")))
@@ -122,7 +151,12 @@ class VerifiedEngine(base.Engine):
     @misc.cachedproperty
     def storage(self):
         """The storage: results, states and failures by the names of atoms and symbols."""
-        return Storage(self._flow_detail, self._backend, self._scopes_of)
+        engine = weakref.ref(self)
+
+        def scopes_of(name):
+            living = engine()
+            return living._scopes_of(name) if living is not None else None
+        return Storage(self._flow_detail, self._backend, scopes_of)
 
     @misc.cachedproperty
     def _full_compilation(self):
@@ -154,12 +188,19 @@ class VerifiedEngine(base.Engine):
             if self._plan is None:
                 plan = self._make_plan()
                 with contextlib.suppress(exceptions.MissingDependencies):
-                    self._check(FlowFile(plan, self.storage.values(), self._place.texts), plan.root.name)
+                    self._check(self._written(plan), plan.root.name)
                 self._plan = plan
+
+    def _written(self, plan):
+        return FlowFile(plan, self.storage.values(), self._place.texts, self._injected)
+
+    def _injected(self, atom):
+        """What an atom takes from nobody: what it is made with, and what the user injected for it into the storage."""
+        return {**(atom.thing.inject or {}), **self.storage.injected(atom.name)}
 
     def _check(self, file, name):
         """Has the program check a flow file, so that what it refuses is refused before a run."""
-        status, lines, errors = program.ask([self._program, "check", "--", self._write(file)])
+        status, lines, errors = program.ask([self._program, "check", "--", self._write(file)], "ok ")
         if status != program.SUCCESS:
             raise program.fault_of(name, status, lines[-1] if lines else "", errors)
 
@@ -178,21 +219,35 @@ class VerifiedEngine(base.Engine):
     @_checked(stored=False, validated=False)
     def prepare(self):
         """Makes the storage of all atoms, takes what the book has of the flow, and puts a reverted flow back. Raises StorageFailure
-        where the book can't be read, and InvalidState where it has another flow of this name."""
+        where the book can't be read, and InvalidState where it has another flow of this name, or where the flow detail has what no book
+        has."""
         with self._lock:
             if not self._stored:
                 self._store()
+            if self._place.plan not in (None, self._plan):
+                self._refuse_other_form(self._place.plan.form())
             if self._place.unsure:
                 self._look()
             if self.storage.get_flow_state() == states.REVERTED:
                 self.reset()
+            if not self._place.begun:
+                self._refuse_begun()
+
+    def _refuse_begun(self):
+        """Raises InvalidState where the flow detail has what no run of its place did: the program would run it again from the start."""
+        for atom in self._plan.atoms:
+            state = self.storage.detail(atom.name).state
+            if state != states.PENDING:
+                raise exceptions.InvalidState("the flow detail of %s has %s as %s, by another engine or process or by hand: this engine"
+                                              " goes on with what book= keeps alone" % (self._plan.root.name, atom.name, state))
 
     def _store(self):
         self.storage.ensure_atoms(atom.thing for atom in self._plan.atoms)
         for atom in self._plan.atoms:
             if atom.thing.inject:
                 self.storage.inject_atom_args(atom.name, atom.thing.inject, transient=True)
-        self._recorder = Recorder(self, self._plan, self.storage, self._place.texts, self._place.failures)
+        # Neither the recorder nor the storage keeps the engine: its folder goes with it at once.
+        self._recorder = Recorder(weakref.proxy(self), self._plan, self.storage, self._place.texts, self._place.failures)
         self._stored = True
 
     @_checked(validated=False)
@@ -203,7 +258,7 @@ class VerifiedEngine(base.Engine):
             if self._place.kept and self._place.begun:
                 self._file = self._file or _InBook()
             else:
-                self._file = FlowFile(self._plan, self.storage.values(), self._place.texts)
+                self._file = self._written(self._plan)
 
     @_checked(stored=False, validated=False)
     def suspend(self):
@@ -233,7 +288,8 @@ class VerifiedEngine(base.Engine):
     def _reset_kept(self):
         if not self._place.begun:
             return
-        status, lines, errors = program.ask_when_free([self._program, "reset", "--", self._place.book, self._plan.root.label])
+        words = [self._program, "reset", "--", self._place.book, self._plan.root.label]
+        status, lines, errors = program.ask_when_free(words, tuple("0123456789"))
         self._take_lines(lines, tells=True)
         if status != program.SUCCESS:
             raise program.fault_of(self._plan.root.name, status, lines[-1] if lines else "", errors)
@@ -288,21 +344,46 @@ class VerifiedEngine(base.Engine):
 
     def _run_program(self):
         self._place.stop.clear()
-        self._relays = relaying.Relays(self._workers, self._place.texts) if self._workers else None
+        self._relays = relaying.Relays(self._workers, _truth(self._options.get("pickle"))) if self._workers else None
         try:
             yield from self._run_sessions()
         finally:
             if self._relays is not None:
                 self._relays.close()
+            place = self._place
+            place.rest(not place.unsure and (place.ended or self.storage.get_flow_state() == states.REVERTED))
 
     def _run_sessions(self):
         for wait in program.WAITS:
             session = yield from self._run_session()
-            if session.status != program.DISK_FAULT or session.seen > session.began:
+            if not self._runs_again(session, wait):
                 break
-            time.sleep(wait)
         self._end(session)
-        yield self.storage.get_flow_state()
+        if session.status in program.ENDS and session.seen == session.began:
+            yield from self._run_elsewhere()
+        else:
+            yield self.storage.get_flow_state()
+
+    def _runs_again(self, session, wait):
+        """Whether a further session follows one that did nothing: another program had the book, which is waited for (seconds), or began
+        this flow since it was looked at."""
+        if session.status == program.DISK_FAULT and session.seen == session.began:
+            time.sleep(wait)
+            return True
+        if session.status == program.FORBIDDEN and not self._place.begun:
+            self._look()
+            return self._place.begun
+        return False
+
+    def _run_elsewhere(self):
+        """The end of a run in which the program had nothing to do: another engine ended the flow in the book meanwhile."""
+        self._look()
+        self.catch_up(self._place.held)
+        self._place.held = []
+        if self._place.ended:
+            yield from self._run_ended()
+        else:
+            yield self.storage.get_flow_state()
 
     def _run_session(self):
         place = self._place
@@ -317,7 +398,7 @@ class VerifiedEngine(base.Engine):
             place.seen, place.held = session.seen, session.held
             place.begun = place.begun or session.seen > 0
             place.ended = session.status in (program.SUCCESS, program.FAILURE)
-            place.unsure = session.status not in program.ENDS
+            place.unsure = session.status not in program.ENDS or _has_flow(place.held)
             place.stop.clear()
         return session
 
@@ -343,6 +424,9 @@ class VerifiedEngine(base.Engine):
         if session.status in program.ENDS:
             return
         if session.stops and session.status < 0:
+            # `suspend` left a flow alone that no line had called RUNNING yet.
+            if self.storage.get_flow_state() == states.RUNNING:
+                self._change_state(states.SUSPENDING)
             self._change_state(states.SUSPENDED)
             return
         fault = program.fault_of(self._plan.root.name, session.status, session.said, session.errors)
@@ -363,27 +447,65 @@ class VerifiedEngine(base.Engine):
             failure.Failure.reraise_if_any(found)
 
     def _look(self):
-        """Takes what the book has and no session said: all of it where this process begins, silently, and else what the program
-        recorded last before it ended."""
+        """Takes what the book has and no session said: all of it where this process begins or another one ran the flow, and else what
+        the program recorded last before it ended, which is held until the flow goes on."""
         place = self._place
         place.unsure = False
-        if not os.path.exists(place.book) or not os.path.getsize(place.book):
+        lines = self._shown()
+        if not lines:
+            if self._place.kept:
+                place.forms.forget(self._plan.root.label)
             return
-        status, lines, errors = program.ask([self._program, "show", "--", place.book, self._plan.root.label])
-        if status == program.FORBIDDEN:
-            return
-        if status != program.SUCCESS:
-            raise program.fault_of(self._plan.root.name, status, lines[-1] if lines else "", errors)
-        self._refuse_other_atoms(lines)
-        new = [line for line in (Line(text) for text in lines if text[:1].isdigit()) if line.number > place.seen]
-        if place.begun:
+        if self._place.kept:
+            self._compare()
+        new = [line for line in _entries(lines) if line.number > place.seen]
+        if place.begun and not _has_flow(place.held + new):
             place.held += new
         else:
-            for line in new:
-                self._recorder.take(line, tells=False)
+            self.catch_up(place.held + new)
+            place.held = []
         place.begun = True
         place.ended = any(text.startswith("state ") and text.split(" ")[2] in (states.SUCCESS, states.FAILURE) for text in lines)
         place.seen = new[-1].number if new else place.seen
+
+    def _shown(self):
+        """What the program shows of this flow in the book (a list of str), with nothing where the flow isn't there. Raises
+        StorageFailure where the book can't be read, and InvalidState where it has another flow of this name."""
+        place = self._place
+        if not os.path.exists(place.book) or not os.path.getsize(place.book):
+            return []
+        status, lines, errors = program.ask([self._program, "show", "--", place.book, self._plan.root.label], "state ")
+        if status == program.FORBIDDEN or status == program.UNSAID and lines and lines[-1].startswith(_NO_FLOW):
+            return []
+        if status != program.SUCCESS:
+            raise program.fault_of(self._plan.root.name, status, lines[-1] if lines else "", errors)
+        self._refuse_other_atoms(lines)
+        return lines
+
+    def catch_up(self, lines):
+        """Takes lines that no session of this engine said. Listeners hear of the atoms where this engine ran the flow before, as the
+        lines may be of its own run; the states of the flow are silent, since they are those of several runs."""
+        for line in lines:
+            self._recorder.take(line, tells=self._place.begun and line.kind != "flow")
+
+    def missed(self, seen, number):
+        """The lines of the book's entries behind `seen` and before `number` (both int)."""
+        return [line for line in _entries(self._shown()) if seen < line.number < number]
+
+    def _compare(self):
+        """Refuses a flow that has another form than the book's, and takes the book's store: its tasks get that, whatever was given now."""
+        found = self._place.forms.find(self._plan.root.label)
+        if found is None:
+            return
+        form, store = found
+        self._refuse_other_form(form)
+        if store:
+            self.storage.inject({symbol: self._place.texts.value_of(text)[0] for symbol, text in store.items()})
+
+    def _refuse_other_form(self, form):
+        if form != self._plan.form():
+            raise exceptions.InvalidState("the book %s has another flow of the name %s: other atoms, or these in another order, with other"
+                                          " deciders or other symbols" % (self._place.book, self._plan.root.name))
 
     def _refuse_other_atoms(self, lines):
         theirs = [text.split(" ", 2)[1] for text in lines if text.startswith("atom ")]
@@ -410,7 +532,15 @@ class VerifiedEngine(base.Engine):
 
     def take(self, line):
         """Takes a line of the run."""
+        if line.number == 1:
+            self._place.plan = self._plan
+            if self._place.kept:
+                self._place.forms.add(self._plan.root.label, self._plan.form(), self._file.stored)
         self._recorder.take(line)
+
+    def label_of(self, word):
+        """The name in the file of what a request asks for."""
+        return self._plan.label_of(word)
 
     def is_hidden(self, label):
         """Whether what has this name in the file is none of the flow's atoms."""
@@ -440,11 +570,11 @@ class VerifiedEngine(base.Engine):
 
     def _kwargs(self, atom, undoes, given):
         """The arguments of a method. Raises LookupError where one that isn't optional has no value."""
-        thing, kwargs = atom.thing, {}
+        thing, kwargs, injected = atom.thing, {}, self._injected(atom)
         rebind, optional = (thing.revert_rebind, thing.revert_optional) if undoes else (thing.rebind, thing.optional)
         for name, symbol in rebind.items():
-            if thing.inject and symbol in thing.inject:
-                kwargs[name] = thing.inject[symbol]
+            if symbol in injected:
+                kwargs[name] = injected[symbol]
                 continue
             try:
                 kwargs[name] = value_of(given, symbol, self._place.texts)
@@ -477,7 +607,7 @@ class VerifiedEngine(base.Engine):
         if isinstance(result, failure.Failure):
             return self._failed(result)
         try:
-            text = self._place.texts.text_of(result, atom.places, "the result of %s" % atom.name)
+            text = self._place.texts.text_of(result, atom.places, "the result of %s" % atom.name, atom.name)
         except NotKept:
             return self._failed(failure.Failure())
         self._recorder.made[atom] = (text, result)
@@ -508,10 +638,20 @@ class VerifiedEngine(base.Engine):
 _SUCCESS = b'"result":%b,"state":"SUCCESS"'
 
 
+def _has_flow(lines):
+    """Whether a line is of the flow's own states: it is held only where its run was broken off, or another engine ran the flow."""
+    return any(line.kind == "flow" for line in lines)
+
+
+def _entries(lines):
+    """The lines that are entries, among those that the program shows."""
+    return [Line(text) for text in lines if text[:1].isdigit()]
+
+
 class _InBook:
     """Stands for the flow file of a flow that a book has already."""
 
-    text = None
+    text, stored = None, {}
 
 
 def _truth(value):
@@ -521,8 +661,9 @@ def _truth(value):
 
 def _hands(options):
     given = options.get("hands")
-    if given is None:
-        given = options.get("max_workers")
+    if given is None and options.get("max_workers") is not None:
+        # TaskFlow has no limit of threads; more than the program has hands for would idle.
+        given = min(int(options["max_workers"]), HAND_LIMIT)
     hands = 1 if given is None else int(given)
     if not 1 <= hands <= HAND_LIMIT:
         raise ValueError("hands are 1 to %d, not %s" % (HAND_LIMIT, given))
@@ -533,7 +674,7 @@ def _executor(options):
     given = options.get("executor")
     if given is None or isinstance(given, str) and given.lower() in ("thread", "threads", "threaded"):
         return None
-    if isinstance(given, str) or not hasattr(given, "submit"):
+    if isinstance(given, (str, concurrent.futures.ProcessPoolExecutor)) or not hasattr(given, "submit"):
         raise ValueError("tasks are performed in threads, not in %r" % (given,))
     return given
 
@@ -543,6 +684,6 @@ def _addresses(given):
         return []
     addresses = given.split(",") if isinstance(given, str) else list(given)
     for address in addresses:
-        if not address.startswith(("unix:", "tcp:")):
+        if not links.is_address(address):
             raise ValueError("a worker's address is unix:PATH or tcp:127.0.0.1:PORT, not %r" % (address,))
     return addresses

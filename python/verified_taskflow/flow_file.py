@@ -2,12 +2,10 @@
 
 from json.encoder import encode_basestring
 
-from taskflow import atom as atoms
 from taskflow import exceptions
-from taskflow import task as tasks
 
 from .names import Names, name_for
-from .plan import Atom, retry_kind
+from .plan import Atom, retry_kind, undoes
 from .refusals import Unsupported
 from .values import NotKept
 
@@ -28,17 +26,21 @@ def _array(texts):
 
 
 class FlowFile:
-    """The flow file of a plan with the values of a store (a dict from symbols to values), made by `texts`.
+    """The flow file of a plan with the values of a store (a dict from symbols to values), made by `texts`; `injected` gives what an Atom takes
+    from nobody (a dict from symbols).
 
-    `text` is the file. Raises MissingDependencies where nobody can give a symbol, and Unsupported where something has no form."""
+    `text` is the file, `stored` the texts of the store's values that it has (a dict from symbols). Raises MissingDependencies where nobody
+    can give a symbol, and Unsupported where something has no form."""
 
-    def __init__(self, plan, store, texts):
+    def __init__(self, plan, store, texts, injected):
+        self._injected = {atom: injected(atom) for atom in plan.atoms}
         self._plan = plan
         self._store = store
         self._texts = texts
         self._names = Names()
         self._symbols = {}
         self._values = {}
+        self.stored = {}
         self._refuse_missing()
         self._sources = {atom: self._sources_of(atom) for atom in plan.atoms}
         self._groups = self._groups_of_results()
@@ -71,15 +73,14 @@ class FlowFile:
         return [name for name, symbol in rebind.items() if name not in optional and not self._is_given(atom, symbol)]
 
     def _is_given(self, atom, symbol):
-        return (bool(atom.thing.inject) and symbol in atom.thing.inject or symbol in self._store
-                or bool(self._plan.visible(symbol, atom)))
+        return symbol in self._injected[atom] or symbol in self._store or bool(self._plan.visible(symbol, atom))
 
     def _sources_of(self, atom):
         """From each symbol that an atom takes without injecting it to whether the store gives it, and not another's result."""
         thing, found = atom.thing, {}
         for rebind, optional in ((thing.rebind, thing.optional), (thing.revert_rebind, thing.revert_optional)):
             for symbol in rebind.values():
-                if not (thing.inject and symbol in thing.inject) and (symbol not in optional or self._is_given(atom, symbol)):
+                if symbol not in self._injected[atom] and (symbol not in optional or self._is_given(atom, symbol)):
                     found[symbol] = symbol in self._store
         return found
 
@@ -135,6 +136,7 @@ class FlowFile:
             except NotKept as fault:
                 raise Unsupported(self._plan.root.name, str(fault)) from None
             self._values[label] = quoted(text)
+            self.stored[symbol] = text
 
     # Items.
 
@@ -159,14 +161,15 @@ class FlowFile:
         return "{%s}" % ",".join(part for part in parts if part)
 
     def _task_table(self, atom):
-        parts = ["task=%s" % quoted(atom.label), 'kind="command"', "run=[%s]" % quoted(atom.label)]
+        word = quoted(self._plan.word_of(atom.label))
+        parts = ["task=%s" % quoted(atom.label), 'kind="command"', "run=[%s]" % word]
         if self._written[atom]:
             parts.append("requires=%s" % _array(self._written[atom]))
         name = self._provided(atom)
         if name:
             parts.append("provides=%s" % quoted(name))
         if undoes(atom.thing):
-            parts.append("revert=[%s]" % quoted(atom.label))
+            parts.append("revert=[%s]" % word)
         if atom.thing.priority:
             parts.append("priority=%d" % atom.thing.priority)
         return "{%s}" % ",".join(parts)
@@ -179,7 +182,7 @@ class FlowFile:
         return [hidden for item in node.items if type(item) is Atom for _, hidden in self._plan.edges(item) if hidden]
 
     def _hidden_item(self, hidden):
-        return '{task=%s,kind="command",run=[%s]}' % (quoted(hidden.label), quoted(hidden.label))
+        return '{task=%s,kind="command",run=[%s]}' % (quoted(hidden.label), quoted(self._plan.word_of(hidden.label)))
 
     def _links(self, node):
         """The links of a flow that is written as a graph: its own, and those to and from its hidden tasks."""
@@ -269,13 +272,3 @@ def value_of(given, symbol, texts):
 
 def _link(one, other, decider):
     return "{from=%s,to=%s%s}" % (quoted(one), quoted(other), "," + decider if decider else "")
-
-
-def undoes(task):
-    """Whether a task does anything where it is reverted."""
-    kind = type(task)
-    if kind.pre_revert is not atoms.Atom.pre_revert or kind.post_revert is not atoms.Atom.post_revert:
-        return True
-    if kind.revert is tasks.FunctorTask.revert:
-        return task._revert is not None
-    return kind.revert is not atoms.Atom.revert

@@ -1,5 +1,10 @@
 """A flow object as the tree that a flow file spells: which atoms and flows it has, under which names, and in which order."""
 
+import collections
+import hashlib
+import json
+
+from taskflow import atom as atoms
 from taskflow import deciders as depths
 from taskflow import exceptions
 from taskflow import flow as flows
@@ -9,7 +14,10 @@ from taskflow.patterns import graph_flow, linear_flow, unordered_flow
 
 from .names import Names
 from .refusals import Unsupported
-from .values import places_of
+from .values import is_short, places_of
+
+WORD_LIMIT = 16
+"""The most characters of a name by which the program asks for a task as it is."""
 
 ATOM_LIMIT, FLOW_LIMIT, NESTING_LIMIT, LINK_LIMIT = 1_000, 500, 16, 4_000
 _KINDS = ((linear_flow.Flow, "linear"), (unordered_flow.Flow, "unordered"), (graph_flow.Flow, "graph"))
@@ -108,6 +116,8 @@ class Plan:
             self.root_idle = self._hide(Hidden())
         self._give_names()
         self._refuse_limits()
+        self._words = _words_of([one.label for one in self.atoms + self.hidden])
+        self._labels = {word: label for label, word in self._words.items()}
         self.by_label = {atom.label: atom for atom in self.atoms}
         self.by_name = {atom.name: atom for atom in self.atoms}
         self.hidden_by_label = {hidden.label: hidden for hidden in self.hidden}
@@ -177,6 +187,15 @@ class Plan:
         asked = [None if is_said(edge, edges, atom) else self._hide(Hidden(atom, edge)) for edge in edges]
         self._edges[atom] = list(zip(edges, asked))
 
+    def word_of(self, label):
+        """The word by which the program asks for what has this name: the name, or a digest of a long one, which is the same in each
+        process."""
+        return self._words[label]
+
+    def label_of(self, word):
+        """The name that a word of `word_of` means, or the word itself: files had the names once."""
+        return self._labels.get(word, word)
+
     def edges(self, atom):
         """The decided links to a task: pairs of an Edge and the Hidden task that asks it, or None where the file says the test."""
         return self._edges.get(atom, ())
@@ -209,6 +228,27 @@ class Plan:
         return [one for one in self.providers.get(symbol, ()) if one is not atom and comes_before(one, atom)]
 
 
+    def form(self):
+        """A digest (str) of what the program is told of the flow: which atoms and flows it has, what comes before what, what decides, what
+        is undone, and which symbols are taken and given. It is the same whatever order the sets of a process have. The numbers of attempts,
+        the values to try and the priorities aren't in it."""
+        text = json.dumps([self._form_of(self.root), sorted(map(self._form_of_edges, self._edges))])
+        return hashlib.sha256(text.encode()).hexdigest()
+
+    def _form_of(self, item):
+        if type(item) is Atom:
+            return _form_of_atom(item)
+        items = [self._form_of(one) for one in item.items]
+        links = sorted([item.items[one].label, item.items[other].label] for one, other in item.links)
+        retry = [retry_kind(item.retry.thing), _form_of_atom(item.retry)] if item.retry is not None else None
+        return [item.label, item.kind, retry, items if item.kind == "linear" else sorted(items, key=lambda one: one[0]), links]
+
+    def _form_of_edges(self, atom):
+        """The deciders before a task: those that the file says are in it, and those that are asked with their places alone."""
+        return [atom.label, sorted([edge.source.label, edge.target.label, edge.depth, "" if hidden else repr(edge.decider)]
+                                   for edge, hidden in self._edges[atom])]
+
+
 class Edge:
     """A decided link to an atom: its source (TaskFlow's object), the decider, and its depth (ALL, FLOW, NEIGHBORS or ATOM)."""
 
@@ -233,11 +273,12 @@ def edges_of(atom):
 
 
 def is_said(edge, edges, atom):
-    """Whether the file can say this decider: the only one of the atom, a test for a plain value of a task's result."""
+    """Whether the file can say this decider: the only one of the atom, a test for a short plain value of a task's result."""
     from .deciders import test
     decider = edge.decider
     return (type(decider) is test and set(decider.wanted) == {"equals"} and len(edges) == 1 and edge.target is atom
-            and type(edge.source) is Atom and type(decider.wanted["equals"]) in (bool, int, str, type(None)))
+            and type(edge.source) is Atom and type(decider.wanted["equals"]) in (bool, int, str, type(None))
+            and is_short(decider.wanted["equals"]))
 
 
 def comes_before(one, other):
@@ -275,21 +316,46 @@ def retry_kind(controller):
     return next(kind for pattern, kind in _RETRIES if isinstance(controller, pattern))
 
 
-def _providers(atoms):
+def _words_of(labels):
+    """From each name to its word. No name begins as a digest does, and two that had the same one keep their names."""
+    words = {label: label if len(label) <= WORD_LIMIT else "." + hashlib.sha256(label.encode()).hexdigest()[:10] for label in labels}
+    counts = collections.Counter(words.values())
+    return {label: word if counts[word] == 1 else label for label, word in words.items()}
+
+
+def _form_of_atom(atom):
+    thing = atom.thing
+    takes = [sorted({str(symbol) for symbol in rebind.values() if symbol not in optional and not (thing.inject and symbol in thing.inject)})
+             for rebind, optional in ((thing.rebind, thing.optional), (thing.revert_rebind, thing.revert_optional))]
+    gives = sorted([str(symbol), str(index)] for symbol, index in thing.save_as.items())
+    return [atom.label, takes, gives, atom.is_retry or undoes(thing)]
+
+
+def _providers(all_of_them):
     found = {}
-    for atom in atoms:
+    for atom in all_of_them:
         for symbol in atom.provides():
             found.setdefault(symbol, []).append(atom)
     return found
+
+
+def undoes(task):
+    """Whether a task does anything where it is reverted."""
+    kind = type(task)
+    if kind.pre_revert is not atoms.Atom.pre_revert or kind.post_revert is not atoms.Atom.post_revert:
+        return True
+    if kind.revert is tasks.FunctorTask.revert:
+        return task._revert is not None
+    return kind.revert is not atoms.Atom.revert
 
 
 def _unknown(item):
     return TypeError("Unknown object '%s' (%s) requested to compile" % (item, type(item)))
 
 
-def _refuse_duplicates(atoms):
+def _refuse_duplicates(all_of_them):
     seen, twice = set(), set()
-    for atom in atoms:
+    for atom in all_of_them:
         (twice if atom.name in seen else seen).add(atom.name)
     if twice:
         raise exceptions.Duplicate("Atoms with duplicate names found: %s" % sorted(twice))

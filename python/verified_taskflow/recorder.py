@@ -91,6 +91,8 @@ class Recorder:
 
     def _take_atom(self, atom, line, tells):
         state = line.state
+        if state in (states.PENDING, states.REVERTED):
+            self._texts.let_go(atom.name)
         if state in ENDS:
             self._take_end(atom, line, tells)
         elif state == states.RUNNING:

@@ -77,17 +77,22 @@ class Hands:
         self._perform = perform
         self._abort = abort
         self._threads = [threading.Thread(target=self._work, daemon=True, name="taskflow-hand-%d" % at) for at in range(count)]
+
+    def start(self):
+        """Starts the threads. Where that is interrupted, `end` ends those that were."""
         for thread in self._threads:
             thread.start()
 
     def _work(self):
         for request in iter(self._jobs.get, None):
             try:
-                request.link.answer(request.id, self._perform(request))
-            except OSError:
-                pass
+                outcome = self._perform(request)
             except BaseException as fault:
                 self._abort(fault)
+                continue
+            # The program is gone where the answer can't be sent; the session sees that by itself. An OSError of what was performed isn't that.
+            with contextlib.suppress(OSError):
+                request.link.answer(request.id, outcome)
 
     def take(self, request):
         self._jobs.put(request)
@@ -96,13 +101,15 @@ class Hands:
         """Ends the threads once they have done what they are at; waits for that where `waits`."""
         for _ in self._threads:
             self._jobs.put(None)
-        for thread in self._threads if waits else ():
-            thread.join()
+        for thread in self._threads:
+            if waits and thread.ident is not None:
+                thread.join()
 
 
 class Session:
     """One run of the program. `host` performs and takes lines: `perform(request)` gives an outcome, `is_hidden(label)` tells what is
-    performed in the thread of the session, `take(line)` takes a line.
+    performed in the thread of the session, `label_of(word)` gives the name by which lines call what a request asks for, `take(line)` takes
+    a line, `missed(seen, number)` gives the lines of another run's entries between two numbers, and `catch_up(lines)` takes such.
 
     `seen` is the number of the last entry that was said; `held` are lines of entries that the program recorded after it was
     asked to stop: they are taken when the flow goes on."""
@@ -112,12 +119,14 @@ class Session:
         self._home = home
         self._hands = hands
         self._lines = collections.deque()
+        self._current = ()
         self._came = b""
         self.held = held
         self.seen = self.began = seen
-        self.said = ""
+        self.said = self._ended = ""
         self.status = None
         self.stops = False
+        self._killed = False
         self._links = {}
         self._asked = {}
         self._started = {}
@@ -135,8 +144,16 @@ class Session:
     def abort(self, fault=None):
         """Ends the program at once, from any thread; `steps` raises the fault, if one is given."""
         self._fault = self._fault or fault
+        self._kill()
+
+    def _kill(self):
+        self._killed = True
         if self._process is not None:
             self._process.kill()
+
+    def _end(self):
+        """Waits for the program's end."""
+        self.status = program.status_of(self._process.wait(), self._ended, self._killed)
 
     # Its course.
 
@@ -149,12 +166,14 @@ class Session:
         try:
             worker = ",".join(["unix:" + self._home.path("s")] * self._hands)
             keep = (theirs.fileno(), door.fileno())
-            self._process = program.start([words[0], words[1], "--worker", worker] + words[2:], errors, keep)
+            program.start([words[0], words[1], "--worker", worker] + words[2:], errors, keep, self._hold)
             self._holder = program.Holder()
+            self._holder.start()
             theirs.close()
             self._output = self._process.stdout.fileno()
             if self._hands > 1:
                 self._pool = Hands(self._hands, self._host.perform, self.abort)
+                self._pool.start()
             self._keeper = ours
             yield from self._go_on(door)
         finally:
@@ -164,6 +183,9 @@ class Session:
             raise self._fault
         with open(errors, "rb") as file:
             self.errors = file.read().decode("utf-8", "replace")
+
+    def _hold(self, process):
+        self._process = process
 
     def _open_door(self):
         door = socket.socket(socket.AF_UNIX)
@@ -178,19 +200,26 @@ class Session:
     def _close(self, door, keeper):
         if self._process is not None:
             if self._process.poll() is None and self.status is None:
-                self._process.kill()
-            self.status = self._process.wait()
+                self._kill()
+            self._end()
             self._process.stdout.close()
         if self._holder is not None:
             self._holder.end()
-        self.held.extend(self._lines)
-        self._lines.clear()
+        self._hold_lines()
         if self._pool is not None:
             self._pool.end(self._fault is None)
+            self._pool = None
         for link in self._links.values():
             link.close()
         keeper.close()
         door.close()
+
+    def _hold_lines(self):
+        """Holds the lines that weren't taken, with the one whose taking was interrupted: that is taken again."""
+        left = {line.number: line for line in [*self.held, *self._current, *self._lines]}
+        self.held = [left[number] for number in sorted(left)]
+        self.seen = max(self.seen, *left, 0)
+        self._lines.clear()
 
     def _go_on(self, door):
         self._all, self._ends = select.poll(), select.poll()
@@ -204,7 +233,7 @@ class Session:
                 if handle == self._output:
                     if not self._read_lines():
                         yield from self._take_lines()
-                        self.status = self._process.wait()
+                        self._end()
                         return
                 elif handle == door.fileno():
                     self._welcome(door)
@@ -213,7 +242,7 @@ class Session:
             yield from self._take_lines()
             yield from self._serve()
             if self._is_stuck():
-                self._process.kill()
+                self._kill()
 
     def _welcome(self, door):
         """Takes a link of the program, and leaves a copy of it at once in a socket that the program itself holds, as it does the one that
@@ -236,11 +265,19 @@ class Session:
         for text in whole:
             if text[:1].isdigit():
                 line = Line(text.decode())
-                self.seen = line.number
+                if self.seen == self.began and line.number > self.seen + 1:
+                    self._catch_up(line.number)
                 self._lines.append(line)
+                self.seen = line.number
             else:
                 self.said = text.decode()
+                self._ended = self.said if self.said.startswith("end ") else self._ended
         return True
+
+    def _catch_up(self, number):
+        """Takes the entries before the first one of this run: another run recorded them while this one waited for the book."""
+        self._host.catch_up(self.held + self._host.missed(self.seen, number))
+        self.held = []
 
     def _read_request(self, link):
         try:
@@ -250,6 +287,7 @@ class Session:
             self._ends.unregister(link.fileno())
             return
         if request is not None:
+            request.label = self._host.label_of(request.label)
             self._asked[request.label] = request
             self._match(request.label)
 
@@ -264,7 +302,8 @@ class Session:
         while self._lines:
             line = self._lines[0]
             if self.stops and not self._goes_through(line):
-                self.held.append(self._lines.popleft())
+                self.held.append(line)
+                self._lines.popleft()
                 continue
             if line.is_start() and self._phase != states.SCHEDULING:
                 if self._phase is None:
@@ -276,7 +315,10 @@ class Session:
                 self._phase = states.ANALYZING
                 yield states.WAITING
                 yield states.ANALYZING
-            self._take(self._lines.popleft())
+            self._current = (line,)
+            self._lines.popleft()
+            self._take(line)
+            self._current = ()
 
     def _goes_through(self, line):
         """Whether a line is taken although the run is to stop: the end of what is at work, and what the flow says."""

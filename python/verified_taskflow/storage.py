@@ -34,6 +34,12 @@ class Storage(storage.Storage):
         found.update(self._transients)
         return found
 
+    def injected(self, name):
+        """What was injected for an atom alone (a dict from symbols): what stays in this process comes before what is saved. Nothing before
+        the atom has a detail."""
+        kept = self.detail(name).meta.get(storage.META_INJECTED) if name in self._atom_name_to_uuid else None
+        return {**(kept or {}), **self._injected_args.get(name, {})}
+
     def detail(self, name):
         """The detail of an atom."""
         return self._flowdetail.find(self._atom_name_to_uuid[name])

@@ -13,10 +13,20 @@ import pickle
 TEXT_LIMIT = 65_536
 """The most bytes of UTF-8 that a text in a book may have."""
 
+SHORT = 256
+"""The most characters of a str that is written as JSON even where values stay in this process."""
+
 MARK = "!"
 _PLAIN = frozenset((type(None), bool, int, float, str))
+_SMALL = frozenset((type(None), bool, float))
 _GROUPS = {"tuple": tuple, "set": set, "frozenset": frozenset}
 _decoder = json.JSONDecoder()
+
+
+def is_short(value):
+    """Whether a value is short and can't change, so that a text of it is as good as itself."""
+    kind = type(value)
+    return kind in _SMALL or kind is int and value.bit_length() <= 64 or kind is str and len(value) <= SHORT
 
 
 class NotKept(TypeError):
@@ -77,54 +87,70 @@ def _marked(mark, packed, places):
     return "%s %s" % (mark, dump([packed, places] if places else [packed]))
 
 
+def _pickle(value, place):
+    """The value's pickle (a str). Raises NotKept where it has none: a value's own code may raise anything."""
+    try:
+        return base64.b64encode(pickle.dumps(value)).decode()
+    except Exception as fault:
+        raise NotKept("%s can't be pickled: %s" % (place, fault)) from fault
+
+
 class Texts:
     """Makes texts of an engine's values, and values of its texts.
 
-    `kept` tells whether the texts are for a book that outlives the process: if they aren't, a value that is no JSON is kept in
-    this object, and its text is its number. `pickled` tells whether such a value may be pickled."""
+    `kept` tells whether the texts are for a book that outlives the process, or for another process: if they aren't, a value that may
+    change or be long stays in this object, and its text is its number, so that who takes it gets the value itself. `pickled` tells whether
+    a value that is no JSON may be pickled, and a pickled one read. `limit` is the most bytes of a text that is kept."""
 
-    def __init__(self, kept, pickled):
+    def __init__(self, kept, pickled, limit=TEXT_LIMIT):
         self._kept = kept
         self._pickled = pickled
+        self._limit = limit
         self._numbers = itertools.count()
         self._objects = {}
+        self._lasting = {}
+        self._owned = {}
 
-    def text_of(self, value, places=None, place="the value"):
-        """The text of a value, whose symbols have these places (a dict from symbol to index or key), if any.
+    def text_of(self, value, places=None, place="the value", owner=None):
+        """The text of a value, whose symbols have these places (a dict from symbol to index or key), if any. Where it is the result of an
+        atom, that is the `owner` (its name): the owner's result before is let go.
 
-        Raises NotKept where it is no JSON and may neither be pickled nor stay in this process, or where the text would have
-        more than TEXT_LIMIT bytes."""
+        Raises NotKept where it must be kept, and is no JSON and can't or may not be pickled, or has a text above the limit."""
         if value is None and not places:
             return "json [null]"
+        if not self._kept and not is_short(value):
+            return _marked("object", self._number_of(value, owner), places)
         try:
-            text = _marked("json", pack(value, place), places)
+            form, text = "JSON", _marked("json", pack(value, place), places)
         except (NotKept, RecursionError, ValueError) as fault:
-            return self._other_text(value, places, fault)
-        if len(text) * 4 > TEXT_LIMIT and len(text.encode()) > TEXT_LIMIT:
-            return self._long_text(value, places, place, text)
+            if not self._pickled:
+                raise fault if type(fault) is NotKept else NotKept("%s is no JSON: %s" % (place, fault))
+            form, text = "a pickle", _marked("pickle", _pickle(value, place), places)
+        if len(text) * 4 > self._limit and len(text.encode()) > self._limit:
+            raise NotKept("%s has %d bytes as %s, above %d" % (place, len(text.encode()), form, self._limit))
         return text
 
-    def _other_text(self, value, places, fault):
-        if self._pickled:
-            text = _marked("pickle", base64.b64encode(pickle.dumps(value)).decode(), places)
-            if len(text) <= TEXT_LIMIT:
-                return text
-        if self._kept:
-            raise NotKept("%s" % fault if type(fault) is NotKept else "it is no JSON: %s" % fault)
-        return self._object_text(value, places)
+    def _number_of(self, value, owner):
+        """The number of a value that stays here. One without an owner stays as long as this object, and has one number alone: a flow
+        file may be written again while the program has an earlier one."""
+        number = self._lasting.get(id(value)) if owner is None else None
+        if number is None:
+            number = next(self._numbers)
+            self._objects[number] = value
+            if owner is None:
+                self._lasting[id(value)] = number
+        if owner is not None:
+            self.let_go(owner)
+            self._owned[owner] = number
+        return number
 
-    def _long_text(self, value, places, place, text):
-        if self._kept:
-            raise NotKept("%s has %d bytes as JSON, above %d" % (place, len(text.encode()), TEXT_LIMIT))
-        return self._object_text(value, places)
-
-    def _object_text(self, value, places):
-        number = next(self._numbers)
-        self._objects[number] = value
-        return _marked("object", number, places)
+    def let_go(self, owner):
+        """Forgets the result of an atom (its name), which nobody takes any more."""
+        self._objects.pop(self._owned.pop(owner, None), None)
 
     def value_of(self, text):
-        """The value of a text, and the places of its symbols (a dict, or None). Raises ValueError where it is none of ours."""
+        """The value of a text, and the places of its symbols (a dict, or None). Raises ValueError where it is none of ours, and where
+        it is pickled though that wasn't asked for: who sends a pickle has code of its own run."""
         mark, _, body = text.partition(" ")
         if mark not in ("json", "pickle", "object"):
             raise ValueError("no text of a value: %.60r" % text)
@@ -133,6 +159,8 @@ class Texts:
         if mark == "json":
             return unpack(items[0]), places
         if mark == "pickle":
+            if not self._pickled:
+                raise ValueError("a pickled value is read with pickle=True (of a worker, --pickle) alone: %.60r" % text)
             return pickle.loads(base64.b64decode(items[0])), places
         if items[0] not in self._objects:
             raise ValueError("the object %d was of a process that is gone" % items[0])

@@ -9,6 +9,8 @@ TaskFlow's own workers make them. Each link is served in a thread of its own. Wh
 import argparse
 import importlib
 import json
+import signal
+import sys
 import threading
 
 from taskflow import task as tasks
@@ -23,15 +25,19 @@ class Worker:
 
     def __init__(self, modules, pickled=False):
         self._modules = {name: importlib.import_module(name) for name in modules}
-        self._texts = Texts(True, pickled)
+        self._texts = Texts(True, pickled, links.TEXT_LIMIT)
 
     def serve(self, address):
-        """Listens at the address, and serves each link that is made there, without end."""
+        """Listens at the address, and serves each link that is made there, until an exception (of a signal) ends it. Then the socket of a
+        path is removed."""
         with links.listen(address) as door:
-            print("listening at " + address, flush=True)
-            while True:
-                link, _ = door.accept()
-                threading.Thread(target=self._session, args=(link,), daemon=True).start()
+            try:
+                print("listening at " + address, flush=True)
+                while True:
+                    link, _ = door.accept()
+                    threading.Thread(target=self._session, args=(link,), daemon=True).start()
+            finally:
+                links.leave(address)
 
     def _session(self, link):
         with link:
@@ -80,6 +86,9 @@ def main():
     parser.add_argument("--address", required=True, help="unix:PATH or tcp:127.0.0.1:PORT")
     parser.add_argument("--pickle", action="store_true", help="results that are no JSON are pickled")
     words = parser.parse_args()
+    if not links.is_address(words.address):
+        parser.error("no address: " + words.address)
+    signal.signal(signal.SIGTERM, lambda number, frame: sys.exit(0))
     Worker(words.modules, words.pickle).serve(words.address)
 
 
