@@ -39,7 +39,7 @@ fn main(rt: HostRuntime) -> ExitCode {
         crew: ProgramCrew::make(rt, SocketDialer::make(rt)),
         door: SocketDoor::make(rt),
     };
-    let ended = obey(rt, alloc, &words, outside);
+    let ended = obey(&rt, alloc, &words, outside);
     ExitCode::from(ended.status)
 }
 
