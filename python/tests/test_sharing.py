@@ -98,6 +98,21 @@ class Sharing(Case):
             found[0].run()
         self.assertEqual((states.REVERTED, 1), (found[0].storage.get_flow_state(), len(found)))
 
+    def test_another_runs_anew_what_was_reverted(self):
+        class Once(task.Task):
+            def execute(self):
+                calls.append(self.name)
+                if len(calls) == 1:
+                    raise ValueError("no")
+                return 7
+        calls, flow = [], line("f", Once("a", provides="x"))
+        first = self.load(flow, book="x.book")
+        with self.assertRaises(ValueError):
+            first.run()
+        self.load(flow, book="x.book").run()
+        first.run()
+        self.assertEqual((states.SUCCESS, 7, 2), (first.storage.get_flow_state(), first.storage.fetch("x"), len(calls)))
+
 
 class Changing(Case):
     """A flow that isn't the one of the book, though its atoms have the same names."""

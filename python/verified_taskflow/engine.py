@@ -226,7 +226,8 @@ class VerifiedEngine(base.Engine):
                 self._store()
             if self._place.plan not in (None, self._plan):
                 self._refuse_other_form(self._place.plan.form())
-            if self._place.unsure:
+            # What was reverted another engine may have put back, and run anew.
+            if self._place.unsure or self._place.kept and self.storage.get_flow_state() == states.REVERTED:
                 self._look()
             if self.storage.get_flow_state() == states.REVERTED:
                 self.reset()
