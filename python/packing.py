@@ -28,7 +28,7 @@ def _read(*path):
 
 def _metadata(project):
     lines = ["Metadata-Version: 2.1", "Name: " + project["name"], "Version: " + project["version"],
-             "Summary: " + project["description"], "Requires-Python: " + project["requires-python"]]
+             "Summary: " + project["description"], "License: " + project["license"], "Requires-Python: " + project["requires-python"]]
     lines += ["Requires-Dist: " + one for one in project["dependencies"]]
     lines += ["Description-Content-Type: text/markdown", "", _read(project["readme"]).decode()]
     return "\n".join(lines).encode()
