@@ -6,11 +6,7 @@ ghost use Rattle.tf_commands.specs.Behaviour.{Behaviour, HiresAsAsked, ports_tol
 ghost use Rattle.tf_ports.specs.Ports.{gives_by};
 
 use std::alloc::Global;
-use std::fs::File;
-use std::io::{Eprint, Print};
-use std::net::{Net, TcpListener, TcpStream};
-use std::process::Processes;
-use std::rt::{Clock, Files};
+use std::rt::HostRuntime;
 use std::sync::Wait;
 use std::thread::Threads;
 use tf_commands::{Ended, Outside, ProgramCrew, taskflow};
@@ -18,46 +14,42 @@ use tf_desk::{Desk, FileDesk};
 use tf_ports::{Crew, Door, Folder, SocketDialer, SocketDoor, Sources, World};
 use tf_words::Word;
 
-/// Does what the words ask for, at the real desk, folder, crew and door over a runtime, and answers these and the status. It
+/// Does what the words ask for, at the real desk, folder, crew and door, and answers these and the status. It
 /// is the top call, and what it promises is said here of what these noted of their own calls: of the desk the text that it
 /// wrote to standard output; of the folder the files of any world, as long as all that was read of it is what they have; of
 /// the crew whom it hired, and the orders of the hands that were given back; of the door where it was opened, and what each
 /// of its links was sent.
-pub(crate) fn obey<
-    R: Threads
-        + Wait
-        + Sync
-        + Files<File = File>
-        + Clock
-        + Print
-        + Eprint
-        + Processes
-        + Net<Listener = TcpListener, Stream = TcpStream>
-        + Copy
-        + Send
-        + Drop,
-    W: World + Drop,
->(
+pub(crate) fn obey<R: Threads + Wait + Sync, W: World + Drop>(
     rt: &R,
     alloc: Global,
     words: &[Word],
-    outside: Outside<FileDesk<R>, Folder<R, W>, ProgramCrew<R, SocketDialer<R>>, SocketDoor<R>>,
-) -> Ended<FileDesk<R>, Folder<R, W>, ProgramCrew<R, SocketDialer<R>>, SocketDoor<R>>
+    outside: Outside<
+        FileDesk<HostRuntime>,
+        Folder<HostRuntime, W>,
+        ProgramCrew<HostRuntime, SocketDialer<HostRuntime>>,
+        SocketDoor<HostRuntime>,
+    >,
+) -> Ended<
+    FileDesk<HostRuntime>,
+    Folder<HostRuntime, W>,
+    ProgramCrew<HostRuntime, SocketDialer<HostRuntime>>,
+    SocketDoor<HostRuntime>,
+>
     // The way that the command went. The desk tells nothing of its files, so that the clauses on these ask for nothing here.
-    ensures behaviour { Behaviour ⟦<FileDesk<R> as Desk>⟧.state (gives_by Gives GivesFar)
-        (WasAsked (⟦<FileDesk<R> as Desk>⟧.state outside.desk)
-        (⟦<FileDesk<R> as Desk>⟧.state result.outside.desk))
-        words.now (⟦<Folder<R, W> as Sources>⟧.contents result.outside.sources)
-        (ports_told ⟦<ProgramCrew<R, SocketDialer<R>> as Crew>⟧.told
-        ⟦<SocketDoor<R> as Door>⟧.told outside.crew outside.door)
-        (ports_told ⟦<ProgramCrew<R, SocketDialer<R>> as Crew>⟧.told
-        ⟦<SocketDoor<R> as Door>⟧.told result.outside.crew result.outside.door)
+    ensures behaviour { Behaviour ⟦<FileDesk<HostRuntime> as Desk>⟧.state (gives_by Gives GivesFar)
+        (WasAsked (⟦<FileDesk<HostRuntime> as Desk>⟧.state outside.desk)
+        (⟦<FileDesk<HostRuntime> as Desk>⟧.state result.outside.desk))
+        words.now (⟦<Folder<HostRuntime, W> as Sources>⟧.contents result.outside.sources)
+        (ports_told ⟦<ProgramCrew<HostRuntime, SocketDialer<HostRuntime>> as Crew>⟧.told
+        ⟦<SocketDoor<HostRuntime> as Door>⟧.told outside.crew outside.door)
+        (ports_told ⟦<ProgramCrew<HostRuntime, SocketDialer<HostRuntime>> as Crew>⟧.told
+        ⟦<SocketDoor<HostRuntime> as Door>⟧.told result.outside.crew result.outside.door)
         outside.desk result.outside.desk result.status }
 
     // Nobody is hired, or exactly the hands that the words ask for.
     ensures hires { HiresAsAsked words.now
-        (⟦<ProgramCrew<R, SocketDialer<R>> as Crew>⟧.told outside.crew)
-        (⟦<ProgramCrew<R, SocketDialer<R>> as Crew>⟧.told result.outside.crew) }
+        (⟦<ProgramCrew<HostRuntime, SocketDialer<HostRuntime>> as Crew>⟧.told outside.crew)
+        (⟦<ProgramCrew<HostRuntime, SocketDialer<HostRuntime>> as Crew>⟧.told result.outside.crew) }
 {
     taskflow(rt, alloc, words, outside)
 }
