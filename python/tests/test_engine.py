@@ -76,12 +76,11 @@ class Loading(Case):
 
 
 class Forms(Case):
-    """What has no form is refused when the engine is compiled, with the name and the reason."""
+    """What has no form is refused when the engine is made or compiled, with the name and the reason."""
 
     def refused(self, flow, name, reason, **kwargs):
-        engine = self.load(flow, **kwargs)
         with self.assertRaises(Unsupported) as caught:
-            engine.compile()
+            self.load(flow, **kwargs).compile()
         self.assertEqual(name, caught.exception.name)
         self.assertIn(reason, caught.exception.reason)
 
@@ -102,6 +101,11 @@ class Forms(Case):
     def test_values_to_try_that_a_task_gives(self):
         inner = line("inner", Give("b"), retry=retry.ParameterizedForEach("each", provides="v"))
         self.refused(line("f", Give("a", [1], provides="values"), inner), "each", "must be in the store")
+
+    def test_what_has_no_form_whatever_its_values_are_is_refused_when_the_engine_is_made(self):
+        with self.assertRaises(Unsupported) as caught:
+            self.load(line("f", *[Give("t%d" % at) for at in range(1001)]))
+        self.assertEqual("f", caught.exception.name)
 
     def test_too_many_attempts(self):
         self.refused(line("f", Give("a"), retry=retry.Times(1001, "much")), "much", "1001 attempts")

@@ -24,6 +24,7 @@ from .books import Failures, Forms, Home, StopFile, path_of
 from .flow_file import FlowFile, value_of
 from .plan import Atom, Plan
 from .recorder import Line, Recorder
+from .refusals import Unsupported
 from .session import Session
 from .storage import Storage
 from .values import NotKept, Texts
@@ -114,7 +115,8 @@ class VerifiedEngine(base.Engine):
     - `workers` (list of addresses, `unix:PATH` or `tcp:127.0.0.1:PORT`): processes that perform in place of this one.
     - `program` (path): the program.
 
-    Raises ValueError for an option that can't be."""
+    Raises ValueError for an option that can't be, and Unsupported, with the atom's name and the reason, for what has no form in a flow
+    file."""
 
     def __init__(self, flow, flow_detail, backend, options):
         super().__init__(flow, flow_detail, backend, options)
@@ -132,6 +134,17 @@ class VerifiedEngine(base.Engine):
         if _truth(self._options.get("never_resolve")):
             raise ValueError("never_resolve has no form here: each failure is resolved")
         self._place = self._find_place(flow_detail)
+        self._refuse_formless()
+
+    def _refuse_formless(self):
+        """Raises Unsupported for what has no form whatever the store has. What else is wrong with the flow `compile` tells, as that of
+        TaskFlow's engines does."""
+        try:
+            self._make_plan()
+        except Unsupported:
+            raise
+        except Exception:
+            pass
 
     def _find_place(self, flow_detail):
         book = getattr(flow_detail, "verified_book", None) or self._options.get("book")
@@ -183,7 +196,7 @@ class VerifiedEngine(base.Engine):
 
     def compile(self):
         """Makes the flow's plan. Raises TypeError, ValueError or Duplicate where it is no flow, and Unsupported, with the atom's name
-        and the reason, where it has no form in a flow file."""
+        and the reason, where it has no form in a flow file with these values."""
         with self._lock:
             if self._plan is None:
                 plan = self._make_plan()
