@@ -1,9 +1,9 @@
 -- How what calls do to a desk's state joins: for each word what holds before any call, one call after another, and what a wider word says.
-use Rattle.std.proofs.Common.{◌≡◌, ℕ, IsTrue, List, [], ◌++◌, Option, Some, None, refl, sym, ◌∙◌, ap, subst, arith, unwrap_or}
+use Rattle.std.proofs.Common.{◌≡◌, ℕ, Bool, IsTrue, List, [], ◌++◌, Option, Some, None, refl, sym, ◌∙◌, ap, subst, arith, unwrap_or}
 use Rattle.std.proofs.lemmas.List.{append_assoc, append-nil}
 use Rattle.std.specs.Option.{option_and_then}
 use Rattle.tf_desk.specs.Crash.{Mark, Content, bytes_of, Pairs, Images, IsLeft, LeavesNoMore}
-use Rattle.tf_desk.specs.State.{DeskState, nothing_left, anything, Continues, bytes_now, MayLeave, IsDurable, SaysPrefix, Passes, OnDisk, Extends, FilesStay, OthersStay, Rests, GoesOn, Says, Asks, passes_none, passes_on, passes_within}
+use Rattle.tf_desk.specs.State.{DeskState, nothing_left, anything, told_as, Trusts, Continues, bytes_now, MayLeave, IsDurable, SaysPrefix, Passes, OnDisk, Extends, FilesStay, OthersStay, Rests, GoesOn, Says, Asks, passes_none, passes_on, passes_within}
 
 -- ---- marks
 
@@ -274,4 +274,106 @@ pub asks_continues : {old new : DeskState} → Asks old new → Continues old ne
 asks_continues a = record {
   extends = extends_within (asks_extends a) (λ told. all_within nothing_left);
   files = λ told. files_others (a.files told);
+}
+
+-- ---- calls that take an answer of the system on trust
+
+told_same : (old new : DeskState) → new.tells ≡ old.tells → old ≡ told_as new old
+told_same old new same = ap (λ (tells : Bool). record old { tells = tells }) (sym same)
+
+-- a call that leaves what the desk tells
+pub trusts_of : {Does : DeskState → DeskState → Type 0} {old new : DeskState} → new.tells ≡ old.tells → Does old new
+    → Trusts Does old new
+trusts_of {Does} {old} {new} same does = record {
+  falls = λ told. subst IsTrue same told;
+  does = subst (λ (s : DeskState). Does s new) (told_same old new same) does;
+}
+
+-- a call that does more
+pub trusts_within : {Narrow Does : DeskState → DeskState → Type 0} {old new : DeskState}
+    → (Narrow (told_as new old) new → Does (told_as new old) new) → Trusts Narrow old new → Trusts Does old new
+trusts_within within a = record { falls = a.falls; does = within a.does }
+
+-- what a call does, of a desk that tells less in the end
+pub passes_lowered : {during : Pairs} {old mid : DeskState} (end : DeskState) → Passes during old mid
+    → Passes during (told_as end old) (told_as end mid)
+passes_lowered end a = record { later = a.later; since = a.since; keeps = a.keeps }
+
+pub on_disk_lowered : {during : Pairs} {old mid : DeskState} (end : DeskState) → (IsTrue end.tells → IsTrue old.tells)
+    → OnDisk during old mid → OnDisk during (told_as end old) (told_as end mid)
+on_disk_lowered end falls a = record {
+  tells = refl;
+  shown = a.shown;
+  disk_faults = a.disk_faults;
+  out_faults = a.out_faults;
+  asks = a.asks;
+  turns = a.turns;
+  marks = λ told. a.marks (falls told);
+  crash = λ told. passes_lowered end (a.crash (falls told));
+}
+
+pub files_lowered : {old mid : DeskState} (end : DeskState) → FilesStay old mid → FilesStay (told_as end old) (told_as end mid)
+files_lowered end a = record { files = a.files; picked = a.picked; leaves = a.leaves }
+
+pub others_lowered : {old mid : DeskState} (end : DeskState) → OthersStay old mid → OthersStay (told_as end old) (told_as end mid)
+others_lowered end a = record { picked = a.picked; others = a.others }
+
+pub rests_lowered : {old mid : DeskState} (end : DeskState) → (IsTrue end.tells → IsTrue old.tells) → Rests old mid
+    → Rests (told_as end old) (told_as end mid)
+rests_lowered end falls a = record {
+  on_disk = on_disk_lowered end falls a.on_disk;
+  files = λ told. files_lowered end (a.files (falls told));
+}
+
+pub goes_lowered : {during : Pairs} {old mid : DeskState} (end : DeskState) → (IsTrue end.tells → IsTrue old.tells)
+    → GoesOn during old mid → GoesOn during (told_as end old) (told_as end mid)
+goes_lowered end falls a = record {
+  on_disk = on_disk_lowered end falls a.on_disk;
+  files = λ told. others_lowered end (a.files (falls told));
+}
+
+pub extends_lowered : {during : Pairs} {old mid : DeskState} (end : DeskState) → (IsTrue end.tells → IsTrue old.tells)
+    → Extends during old mid → Extends during (told_as end old) (told_as end mid)
+extends_lowered end falls a = record {
+  tells = refl;
+  disk_faults = a.disk_faults;
+  out_faults = a.out_faults;
+  asks = a.asks;
+  turns = a.turns;
+  marks = λ told. a.marks (falls told);
+  crash = λ told. passes_lowered end (a.crash (falls told));
+}
+
+pub continues_lowered : {old mid : DeskState} (end : DeskState) → (IsTrue end.tells → IsTrue old.tells) → Continues old mid
+    → Continues (told_as end old) (told_as end mid)
+continues_lowered end falls a = record {
+  extends = extends_lowered end falls a.extends;
+  files = λ told. others_lowered end (a.files (falls told));
+}
+
+-- one call after another
+pub trusts_rests_none : {old : DeskState} → Trusts Rests old old
+trusts_rests_none = trusts_of refl rests_none
+
+pub trusts_rests_on : {old mid new : DeskState} → Trusts Rests old mid → Trusts Rests mid new → Trusts Rests old new
+trusts_rests_on {old} {mid} {new} a b = record {
+  falls = λ told. a.falls (b.falls told);
+  does = rests_on (rests_lowered new b.falls a.does) b.does;
+}
+
+pub trusts_continues_on : {old mid new : DeskState} → Trusts Continues old mid → Trusts Continues mid new
+    → Trusts Continues old new
+trusts_continues_on {old} {mid} {new} a b = record {
+  falls = λ told. a.falls (b.falls told);
+  does = continues_on (continues_lowered new b.falls a.does) b.does;
+}
+
+pub trusts_extends_on : {first second during : Pairs} {old mid new : DeskState} → Trusts (Extends first) old mid
+    → Trusts (Extends second) mid new
+    → (IsTrue new.tells → (image text : List ℕ) → first image text → during image text)
+    → (IsTrue new.tells → (image text : List ℕ) → second image text → during image text)
+    → Trusts (Extends during) old new
+trusts_extends_on {first} {second} {during} {old} {mid} {new} a b from_first from_second = record {
+  falls = λ told. a.falls (b.falls told);
+  does = extends_on (extends_lowered new b.falls a.does) b.does from_first from_second;
 }

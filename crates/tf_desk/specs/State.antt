@@ -73,6 +73,16 @@ pub record OnDisk (during : Pairs) (old new : DeskState) : Type 0 where
   pub marks : IsTrue old.tells → (more : List Mark) × (new.content.marks ≡ old.content.marks ++ more)
   pub crash : IsTrue old.tells → Passes during old new
 
+-- the state before a call, telling what the desk tells after it
+abbrev pub told_as : DeskState → DeskState → DeskState
+told_as new old = record old { tells = new.tells }
+
+-- A call that takes an answer of the system on trust, and does that. The desk tells after it only where it told before
+-- and the answer agrees with what it told; what the call does is told then.
+pub record Trusts (Does : DeskState → DeskState → Type 0) (old new : DeskState) : Type 0 where
+  pub falls : IsTrue new.tells → IsTrue old.tells
+  pub does : Does (told_as new old) new
+
 -- what each call keeps, of any layer: no count falls, marks are added at the end alone, and a crash leaves what it
 -- might or what `during` names
 pub record Extends (during : Pairs) (old new : DeskState) : Type 0 where

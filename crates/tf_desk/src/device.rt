@@ -1,7 +1,7 @@
 ghost use Rattle.std.specs.Prelude.{◌≡◌, ℕ, ◌≤◌, true, false, IsTrue, List, length, Some, None, is_some, OnOk, OnErr, IfOk, IfErr};
 ghost use Rattle.tf_numbers.specs.Numbers.{Rises};
 ghost use Rattle.tf_desk.specs.Crash.{written, Reads, shown_with};
-ghost use Rattle.tf_desk.specs.State.{DeskState, bytes_now, LeftNow, OnDisk, Unmarked, Rests, GoesOn, Tears, Syncs, Says, Asks, Picks, PicksNone, LeavesMade, MeetsNoDiskFault, MeetsNoOutputFault, FailsOnDisk, FailsOnOutput, FailsToPick};
+ghost use Rattle.tf_desk.specs.State.{DeskState, bytes_now, LeftNow, OnDisk, Unmarked, told_as, Trusts, Rests, GoesOn, Tears, Syncs, Says, Asks, Picks, PicksNone, LeavesMade, MeetsNoDiskFault, MeetsNoOutputFault, FailsOnDisk, FailsOnOutput, FailsToPick};
 
 use std::alloc::Global;
 use tf_values::Text;
@@ -27,21 +27,21 @@ pub trait Desk: Drop {
     /// Picks the file of that name, and makes it empty where there is none. Where it fails nothing is
     /// picked, and an empty file may have been made. `Memory` is answered here alone.
     fn pick(&mut self, alloc: Global, name: &Text) -> Result<(), DeskFault>
-        ensures picked { OnOk result (IsTrue (state self.old).tells
+        ensures picked { OnOk result (IsTrue (state self.new).tells
             → Picks name.now (state self.old) (state self.new)) }
-        ensures unpicked { OnErr result (IsTrue (state self.old).tells
+        ensures unpicked { OnErr result (IsTrue (state self.new).tells
             → PicksNone name.now (state self.old) (state self.new)) }
-        ensures leaves { IsTrue (state self.old).tells → LeavesMade name.now (state self.old) (state self.new) }
-        ensures on_disk { OnDisk (LeftNow (state self.new)) (state self.old) (state self.new) }
+        ensures leaves { IsTrue (state self.new).tells → LeavesMade name.now (state self.old) (state self.new) }
+        ensures on_disk { Trusts (OnDisk (LeftNow (state self.new))) (state self.old) (state self.new) }
         ensures calm { OnOk result (MeetsNoDiskFault (state self.old) (state self.new)) }
         ensures fails { IfErr result (λ fault. FailsToPick fault (state self.old) (state self.new)) };
 
     /// How many bytes the picked file has.
     fn size(&mut self) -> Result<u64, DeskFault>
-        ensures size { IfOk result (λ size. IsTrue (state self.old).tells
+        ensures size { IfOk result (λ size. IsTrue (state self.new).tells
             → size ≡ length (bytes_now (state self.old))) }
-        ensures unmarked { Unmarked (state self.old) (state self.new) }
-        ensures rests { Rests (state self.old) (state self.new) }
+        ensures unmarked { Unmarked (told_as (state self.new) (state self.old)) (state self.new) }
+        ensures rests { Trusts Rests (state self.old) (state self.new) }
         ensures calm { OnOk result (MeetsNoDiskFault (state self.old) (state self.new)) }
         ensures fails { IfErr result (λ fault. FailsOnDisk fault (state self.old) (state self.new)) };
 
@@ -49,10 +49,10 @@ pub trait Desk: Drop {
     /// there: fewer than the buffer holds only at the file's end.
     fn read(&mut self, at: u64, buf: &mut [u8]) -> Result<usize, DeskFault>
         ensures bound { IfOk result (λ n. n ≤ length buf.new) }
-        ensures bytes { IfOk result (λ n. IsTrue (state self.old).tells
+        ensures bytes { IfOk result (λ n. IsTrue (state self.new).tells
             → Reads (bytes_now (state self.old)) at buf.new n) }
-        ensures unmarked { Unmarked (state self.old) (state self.new) }
-        ensures rests { Rests (state self.old) (state self.new) }
+        ensures unmarked { Unmarked (told_as (state self.new) (state self.old)) (state self.new) }
+        ensures rests { Trusts Rests (state self.old) (state self.new) }
         ensures calm { OnOk result (MeetsNoDiskFault (state self.old) (state self.new)) }
         ensures fails { IfErr result (λ fault. FailsOnDisk fault (state self.old) (state self.new)) };
 
