@@ -377,3 +377,36 @@ trusts_extends_on {first} {second} {during} {old} {mid} {new} a b from_first fro
   falls = λ told. a.falls (b.falls told);
   does = extends_on (extends_lowered new b.falls a.does) b.does from_first from_second;
 }
+
+pub trusts_goes_on : {first second during : Pairs} {old mid new : DeskState} → Trusts (GoesOn first) old mid
+    → Trusts (GoesOn second) mid new
+    → (IsTrue new.tells → (image text : List ℕ) → first image text → during image text)
+    → (IsTrue new.tells → (image text : List ℕ) → second image text → during image text)
+    → Trusts (GoesOn during) old new
+trusts_goes_on {first} {second} {during} {old} {mid} {new} a b from_first from_second = record {
+  falls = λ told. a.falls (b.falls told);
+  does = goes_on (goes_lowered new b.falls a.does) b.does from_first from_second;
+}
+
+-- calls that read, and then calls that write
+pub trusts_then_goes : {during : Pairs} {old mid new : DeskState} → Trusts Rests old mid → GoesOn during mid new
+    → Trusts (GoesOn during) old new
+trusts_then_goes {during} {old} {mid} {new} a b = record {
+  falls = λ told. a.falls (subst IsTrue b.on_disk.tells told);
+  does = rests_then_goes (rests_lowered new (λ told. subst IsTrue b.on_disk.tells told) a.does)
+      (subst (λ (s : DeskState). GoesOn during s new) (told_same mid new b.on_disk.tells) b);
+}
+
+pub trusts_goes : {during : Pairs} {old new : DeskState} → Trusts Rests old new → Trusts (GoesOn during) old new
+trusts_goes {during} a = record { falls = a.falls; does = rests_goes a.does }
+
+-- what such a call did, where the desk tells after it
+pub told_before : {Does : DeskState → DeskState → Type 0} {old new : DeskState} → Trusts Does old new → IsTrue new.tells
+    → IsTrue old.tells
+told_before a told = a.falls told
+
+pub trusts_files : {old new : DeskState} → Trusts Rests old new → IsTrue new.tells → FilesStay old new
+trusts_files a told = let f = a.does.files told in record { files = f.files; picked = f.picked; leaves = f.leaves }
+
+pub trusts_passes : {old new : DeskState} → Trusts Rests old new → IsTrue new.tells → Passes nothing_left old new
+trusts_passes a told = let p = a.does.on_disk.crash told in record { later = p.later; since = p.since; keeps = p.keeps }

@@ -3,7 +3,7 @@ use Rattle.std.proofs.Common.{◌≡◌, ⊎_elim, ℕ, ◌+◌, List, [], ◌�
 use Rattle.std.proofs.lemmas.List.{take_all, append_assoc}
 use Rattle.std.specs.Prelude.{IsTrue}
 use Rattle.tf_desk.specs.Crash.{Mark, at_sync, Torn, IsLeft}
-use Rattle.tf_desk.specs.State.{DeskState, LeftNow, IsDurable, bytes_now, FilesStay, Rests, Tears, Syncs}
+use Rattle.tf_desk.specs.State.{DeskState, LeftNow, IsDurable, bytes_now, FilesStay, Trusts, Rests, Tears, Syncs}
 use Rattle.tf_desk.proofs.StateLemmas.{bytes_stay, durable_on}
 use Rattle.tf_journal.specs.Format.{LiesAs, IsAtRest, HasSynced, Held}
 use Rattle.tf_journal.specs.Gates.{LeavesTornAt}
@@ -47,10 +47,10 @@ synced_here {old} {new} told syncs rests only = record {
 }
 
 -- what a sync left stays so while nothing changes
-pub synced_on : {old mid new : DeskState} → HasSynced old mid → IsTrue mid.tells → Rests mid new → HasSynced old new
+pub synced_on : {old mid new : DeskState} → HasSynced old mid → IsTrue new.tells → Trusts Rests mid new → HasSynced old new
 synced_on {old} {mid} {new} synced told rests =
-    let more = rests.on_disk.marks told in
-    let passes = rests.on_disk.crash told in
+    let more = rests.does.on_disk.marks told in
+    let passes = rests.does.on_disk.crash told in
     record {
       moment = synced.moment;
       others = synced.others ++ more.0;
@@ -59,3 +59,12 @@ synced_on {old} {mid} {new} synced told rests =
       within = omega (arith, synced.within, passes.later);
       since = λ image text left_now. ⊎_elim (λ earlier. synced.since image text earlier) (λ none. absurd none) (passes.since synced.moment image text synced.within left_now);
     }
+
+-- a sync that answers Ok, and a read or more behind it
+pub synced_before : {old mid new : DeskState} → (IsTrue old.tells → Syncs old mid) → Rests old mid
+    → (IsTrue mid.tells → (image text : List ℕ) → mid.crashes mid.content.clock image text → LeftNow mid image text)
+    → Trusts Rests mid new → IsTrue new.tells → HasSynced old new
+synced_before syncs rests only reads told =
+    let still = reads.falls told in
+    let before = subst IsTrue rests.on_disk.tells still in
+    synced_on (synced_here before (syncs before) rests (only still)) told reads

@@ -4,8 +4,8 @@ use Rattle.std.proofs.lemmas.List.{append_cancel_left}
 use Rattle.std.specs.Prelude.{IsTrue, is_some, unwrap_or}
 use Rattle.std.specs.Option.{option_and_then}
 use Rattle.tf_desk.specs.Crash.{Mark, at_pick, at_sync, Pairs, IsLeft}
-use Rattle.tf_desk.specs.State.{DeskState, bytes_now, MayLeave, LeftNow, FilesStay, Passes, nothing_left, OnDisk, Rests, Picks, PicksNone, LeavesMade}
-use Rattle.tf_desk.proofs.StateLemmas.{left_stays, on_disk_told}
+use Rattle.tf_desk.specs.State.{DeskState, bytes_now, MayLeave, LeftNow, FilesStay, Passes, nothing_left, OnDisk, told_as, Trusts, Rests, Picks, PicksNone, LeavesMade}
+use Rattle.tf_desk.proofs.StateLemmas.{left_stays, on_disk_told, on_disk_lowered}
 use Rattle.tf_journal.specs.Format.{HasSynced, IsSynced}
 use Rattle.tf_journal.specs.Start.{file_of, first_pick, first_sync, IsFirm, IsStart, Path, IsAsBefore, IsSame, Untouched, Open}
 
@@ -125,30 +125,34 @@ module _ {name : List ℕ} {entry mid now : DeskState} (picks : Picks name entry
       synced_still image leaves (Some text) same is_there = (h.since image text (reaches h.moment image text h.within (leaves, same))).0 ∙ picked_bytes picks
 
 -- a pick that failed
-pub unpicked : {name : List ℕ} {entry now : DeskState} {during : Pairs} → OnDisk during entry now → (IsTrue entry.tells → PicksNone name entry now) → Untouched name entry now
+pub unpicked : {name : List ℕ} {entry now : DeskState} {during : Pairs} → Trusts (OnDisk during) entry now
+    → (IsTrue now.tells → PicksNone name entry now) → Trusts (Untouched name) entry now
 unpicked {name} {entry} {now} call picks = record {
-  told = call.tells;
-  quiet = call.shown;
-  file = λ telling. unpicked_file (entry.content.files name) (now.content.files name) (picks telling).file (picks telling).kept;
-  path = λ telling. record {
-    others = (picks telling).others;
-    within = λ moment start. absurd (no_start (picks telling).marks start);
-    crash = λ moment start image text leaves. absurd (no_start (picks telling).marks start);
-    still = λ moment start image leaves. absurd (no_start (picks telling).marks start);
+  falls = call.falls;
+  does = record {
+    told = refl;
+    quiet = call.does.shown;
+    file = λ telling. unpicked_file (entry.content.files name) (now.content.files name) (picks telling).file (picks telling).kept;
+    path = λ telling. record {
+      others = (picks telling).others;
+      within = λ moment start. absurd (no_start (picks telling).marks start);
+      crash = λ moment start image text leaves. absurd (no_start (picks telling).marks start);
+      still = λ moment start image leaves. absurd (no_start (picks telling).marks start);
+    };
+    disk = call.does.disk_faults;
+    out = call.does.out_faults;
   };
-  disk = call.disk_faults;
-  out = call.out_faults;
 }
 
--- a pick and a load
-pub opened : {name : List ℕ} {entry mid now : DeskState} {during : Pairs} → OnDisk during entry mid
+-- a pick and a load, of a desk that tells as much in the end
+opened_told : {name : List ℕ} {entry mid now : DeskState} {during : Pairs} → OnDisk during entry mid
     → (IsTrue entry.tells → Picks name entry mid) → (IsTrue entry.tells → LeavesMade name entry mid)
     → Rests mid now → (IsTrue mid.tells → IsSynced mid now)
     → (IsTrue mid.tells → (image text : List ℕ) → mid.crashes mid.content.clock image text → LeftNow mid image text)
     → (IsTrue now.tells → IsTrue (is_some now.shown))
     → (IsTrue now.tells → (start : ℕ) (image text : List ℕ) → start ≤ now.content.clock → LeftNow now image text → now.crashes start image text)
     → Untouched name entry now
-opened {name} {entry} {mid} {now} call picks made rests synced only shows reaches = record {
+opened_told {name} {entry} {mid} {now} call picks made rests synced only shows reaches = record {
   told = rests.on_disk.tells ∙ call.tells;
   quiet = rests.on_disk.shown ∙ call.shown;
   file = λ telling. ap (λ (f : List ℕ → Option (List ℕ)). unwrap_or (f name) []) (rests.files (mid_tells telling)).files ∙ picked_file (picks telling);
@@ -165,9 +169,9 @@ opened {name} {entry} {mid} {now} call picks made rests synced only shows reache
     now_tells telling = on_disk_told rests.on_disk (mid_tells telling)
 
 -- and a load that met no fault of the disk
-pub open_set : {name : List ℕ} {entry mid now : DeskState} {during : Pairs} → OnDisk during entry mid → (IsTrue entry.tells → Picks name entry mid)
+set_told : {name : List ℕ} {entry mid now : DeskState} {during : Pairs} → OnDisk during entry mid → (IsTrue entry.tells → Picks name entry mid)
     → Rests mid now → (IsTrue mid.tells → HasSynced mid now) → Untouched name entry now → Open name entry now
-open_set {name} {entry} {mid} {now} call picks rests synced untouched = record {
+set_told {name} {entry} {mid} {now} call picks rests synced untouched = record {
   untouched = untouched;
   set = λ telling. let telling_mid : IsTrue mid.tells = on_disk_told call telling in
       let h = synced telling_mid in record {
@@ -178,6 +182,42 @@ open_set {name} {entry} {mid} {now} call picks rests synced untouched = record {
         has_pick = refl;
         has_sync = refl;
       };
+}
+
+-- what was done before the desk told less
+picks_lowered : {name : List ℕ} {old new : DeskState} (end : DeskState) → Picks name old new → Picks name (told_as end old) (told_as end new)
+picks_lowered end a = record { picked = a.picked; file = a.file; others = a.others; marks = a.marks }
+
+has_synced_told : {old new : DeskState} → HasSynced old new → HasSynced (told_as new old) new
+has_synced_told a = record { moment = a.moment; others = a.others; marks = a.marks; not_before = a.not_before; within = a.within; since = a.since }
+
+synced_told : {old new : DeskState} → IsSynced old new → IsSynced (told_as new old) new
+synced_told (inl same) = inl same
+synced_told (inr synced) = inr (has_synced_told synced)
+
+-- a pick and a load
+pub opened : {name : List ℕ} {entry mid now : DeskState} {during : Pairs} → Trusts (OnDisk during) entry mid
+    → (IsTrue mid.tells → Picks name entry mid) → (IsTrue mid.tells → LeavesMade name entry mid)
+    → Trusts Rests mid now → (IsTrue now.tells → IsSynced mid now)
+    → (IsTrue mid.tells → (image text : List ℕ) → mid.crashes mid.content.clock image text → LeftNow mid image text)
+    → (IsTrue now.tells → IsTrue (is_some now.shown))
+    → (IsTrue now.tells → (start : ℕ) (image text : List ℕ) → start ≤ now.content.clock → LeftNow now image text → now.crashes start image text)
+    → Trusts (Untouched name) entry now
+opened {name} {entry} {mid} {now} call picks made rests synced only shows reaches = record {
+  falls = λ told. call.falls (rests.falls told);
+  does = opened_told {entry = told_as now entry} {mid = told_as now mid} (on_disk_lowered now rests.falls call.does)
+      (λ told. picks_lowered now (picks (rests.falls told))) (λ told. made (rests.falls told)) rests.does
+      (λ told. synced_told (synced told)) (λ told. only (rests.falls told)) shows reaches;
+}
+
+-- and a load that met no fault of the disk
+pub open_set : {name : List ℕ} {entry mid now : DeskState} {during : Pairs} → Trusts (OnDisk during) entry mid
+    → (IsTrue mid.tells → Picks name entry mid)
+    → Trusts Rests mid now → (IsTrue now.tells → HasSynced mid now) → Trusts (Untouched name) entry now → Trusts (Open name) entry now
+open_set {name} {entry} {mid} {now} call picks rests synced untouched = record {
+  falls = untouched.falls;
+  does = set_told {entry = told_as now entry} {mid = told_as now mid} (on_disk_lowered now rests.falls call.does)
+      (λ told. picks_lowered now (picks (rests.falls told))) rests.does (λ told. has_synced_told (synced told)) untouched.does;
 }
 
 -- nothing was called since

@@ -1,8 +1,8 @@
 -- What is read behind bodies, and what reading leaves as it was.
 use Rattle.std.proofs.Common.{◌≡◌, ℕ, List, [], ◌∷◌, ◌++◌, length, refl, sym, ◌∙◌, ap, subst, append-nil}
 use Rattle.std.specs.Prelude.{IsTrue}
-use Rattle.tf_desk.specs.State.{DeskState, bytes_now, Rests}
-use Rattle.tf_desk.proofs.StateLemmas.{on_disk_told, rests_on, bytes_stay}
+use Rattle.tf_desk.specs.State.{DeskState, bytes_now, Trusts, Rests}
+use Rattle.tf_desk.proofs.StateLemmas.{trusts_files, trusts_rests_on, bytes_stay}
 use Rattle.tf_journal.specs.Format.{Found, closed, body, bad, prefix_of, record_at, Held, LiesAs}
 use Rattle.tf_journal.specs.declared.title.Title.{Title}
 use Rattle.tf_journal.specs.Reading.{HasBodies, OnlyReads}
@@ -26,10 +26,10 @@ next_by title before (first ∷ others) size bytes place found lies at is =
 
 module _ {K : Type 0} (state : K → DeskState) where
   -- the desk was read
-  pub read_only : (journal : Held K) (desk : K) → Rests (state journal.desk) (state desk) → OnlyReads state journal (record journal { desk = desk })
+  pub read_only : (journal : Held K) (desk : K) → Trusts Rests (state journal.desk) (state desk) → OnlyReads state journal (record journal { desk = desk })
   read_only journal desk rests = record {
     journal = refl;
-    stays = λ told held rest. at_rest_on state journal desk held rest (rests.files told);
+    stays = λ told held rest. at_rest_on state journal desk held rest (trusts_files rests told);
     rests = rests;
   }
 
@@ -37,27 +37,24 @@ module _ {K : Type 0} (state : K → DeskState) where
   pub reads_on : (a b c : Held K) → OnlyReads state a b → OnlyReads state b c → OnlyReads state a c
   reads_on a b c one two = record {
     journal = two.journal ∙ ap (λ (h : Held K). record h { desk = c.desk }) one.journal;
-    stays = λ told held rest. two.stays (on_disk_told one.rests.on_disk told) held (one.stays told held rest);
-    rests = rests_on one.rests two.rests;
+    stays = λ told held rest. two.stays told held (one.stays (two.rests.falls told) held rest);
+    rests = trusts_rests_on one.rests two.rests;
   }
 
   -- the file stays, and the bodies in it
-  pub same_file : (a b : Held K) → OnlyReads state a b → IsTrue (state a.desk).tells → bytes_now (state b.desk) ≡ bytes_now (state a.desk)
-  same_file a b reads told = bytes_stay (reads.rests.files told)
+  pub same_file : (a b : Held K) → OnlyReads state a b → IsTrue (state b.desk).tells → bytes_now (state b.desk) ≡ bytes_now (state a.desk)
+  same_file a b reads told = bytes_stay (trusts_files reads.rests told)
 
-  pub bodies_stay : (a b : Held K) → OnlyReads state a b → IsTrue (state a.desk).tells → (held : List (List ℕ)) → HasBodies state a held → HasBodies state b held
+  pub bodies_stay : (a b : Held K) → OnlyReads state a b → IsTrue (state b.desk).tells → (held : List (List ℕ)) → HasBodies state a held → HasBodies state b held
   bodies_stay a b reads told held lies =
       subst (λ (j : Held K). LiesAs j.title held j.size (bytes_now (state b.desk))) (sym reads.journal)
       (subst (λ (bytes : List ℕ). LiesAs a.title held a.size bytes) (sym (same_file a b reads told)) lies)
 
-  pub bodies_were : (a b : Held K) → OnlyReads state a b → IsTrue (state a.desk).tells → (held : List (List ℕ)) → HasBodies state b held → HasBodies state a held
+  pub bodies_were : (a b : Held K) → OnlyReads state a b → IsTrue (state b.desk).tells → (held : List (List ℕ)) → HasBodies state b held → HasBodies state a held
   bodies_were a b reads told held lies =
       subst (λ (bytes : List ℕ). LiesAs a.title held a.size bytes) (same_file a b reads told)
       (subst (λ (j : Held K). LiesAs j.title held j.size (bytes_now (state b.desk))) reads.journal lies)
 
-  -- what was told stays told, and was told before
+  -- what is told was told before
   pub told_was : (a b : Held K) → OnlyReads state a b → IsTrue (state b.desk).tells → IsTrue (state a.desk).tells
-  told_was a b reads told = subst IsTrue reads.rests.on_disk.tells told
-
-  pub told_is : (a b : Held K) → OnlyReads state a b → IsTrue (state a.desk).tells → IsTrue (state b.desk).tells
-  told_is a b reads told = on_disk_told reads.rests.on_disk told
+  told_was a b reads told = reads.rests.falls told

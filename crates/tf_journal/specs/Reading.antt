@@ -1,6 +1,6 @@
 -- How bodies are read through a journal, one after another.
 use Rattle.std.specs.Prelude.{◌≡◌, ◌⊎◌, ℕ, ◌<◌, ◌≤◌, Bool, true, false, IsTrue, List, [], ◌∷◌, Option, None}
-use Rattle.tf_desk.specs.State.{DeskState, bytes_now, Rests}
+use Rattle.tf_desk.specs.State.{DeskState, bytes_now, Trusts, Rests}
 use Rattle.tf_journal.specs.Format.{SIZE_LIMIT, bad, record_at, Held, LiesAs, IsAtRest}
 use Rattle.tf_journal.specs.declared.faults.LoadFault.{LoadFault}
 use Rattle.tf_journal.specs.declared.faults.LoadFault.TheVariants as load_fault
@@ -48,5 +48,5 @@ RefusesPlace load_fault.Old title bytes place = ⊥
 -- rose
 pub record OnlyReads {K : Type 0} (state : K → DeskState) (old new : Held K) : Type 0 where
   pub journal : new ≡ record old { desk = new.desk }
-  pub stays : IsTrue (state old.desk).tells → (held : List (List ℕ)) → IsAtRest state old held → IsAtRest state new held
-  pub rests : Rests (state old.desk) (state new.desk)
+  pub stays : IsTrue (state new.desk).tells → (held : List (List ℕ)) → IsAtRest state old held → IsAtRest state new held
+  pub rests : Trusts Rests (state old.desk) (state new.desk)

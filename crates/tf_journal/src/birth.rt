@@ -1,6 +1,6 @@
 //! How a journal is made in an unborn file.
 ghost use Rattle.std.specs.Prelude.{◌≡◌, ◌≢◌, ◌↔◌, ◌≤◌, ℕ, List, true, ◌++◌, ◌∷◌, [], IsTrue, length, take, drop, OnOk, IfErr};
-ghost use Rattle.tf_desk.specs.State.{bytes_now, IsDurable, GoesOn, FailsOnDisk};
+ghost use Rattle.tf_desk.specs.State.{bytes_now, IsDurable, Trusts, GoesOn, FailsOnDisk};
 ghost use Rattle.tf_journal.specs.Birth.{IsClosed, IsTitled, born_bytes};
 ghost use Rattle.tf_journal.specs.Format.{is_unborn, title_of, LeavesUnborn, LeavesBirth};
 
@@ -70,10 +70,10 @@ fn open_gate<K: Desk>(desk: &mut K, title: Title) -> Result<(), DeskFault>
 /// Writes all that a journal without a record has, but for its open gate: the file stays unborn.
 pub fn begin<K: Desk>(desk: &mut K, title: Title) -> Result<(), DeskFault>
     requires unborn { IsTrue (K.state desk.old).tells → is_unborn title (bytes_now (K.state desk.old)) ≡ true }
-    ensures titled { OnOk result (IsTrue (K.state desk.old).tells
+    ensures titled { OnOk result (IsTrue (K.state desk.new).tells
         → IsTitled title (bytes_now (K.state desk.old)) (bytes_now (K.state desk.new))) }
-    ensures durable { OnOk result (IsTrue (K.state desk.old).tells → IsDurable (K.state desk.new)) }
-    ensures goes { GoesOn (LeavesUnborn title (K.state desk.old).shown) (K.state desk.old) (K.state desk.new) }
+    ensures durable { OnOk result (IsTrue (K.state desk.new).tells → IsDurable (K.state desk.new)) }
+    ensures goes { Trusts (GoesOn (LeavesUnborn title (K.state desk.old).shown)) (K.state desk.old) (K.state desk.new) }
     ensures fails { IfErr result (λ fault. FailsOnDisk fault (K.state desk.old) (K.state desk.new)) }
 {
     let mut head = [0; 18];
@@ -85,10 +85,10 @@ pub fn begin<K: Desk>(desk: &mut K, title: Title) -> Result<(), DeskFault>
 /// Makes a journal without a record in an unborn file.
 pub fn bear<K: Desk>(desk: &mut K, title: Title) -> Result<(), DeskFault>
     requires unborn { IsTrue (K.state desk.old).tells → is_unborn title (bytes_now (K.state desk.old)) ≡ true }
-    ensures born { OnOk result (IsTrue (K.state desk.old).tells
+    ensures born { OnOk result (IsTrue (K.state desk.new).tells
         → bytes_now (K.state desk.new) ≡ born_bytes title (bytes_now (K.state desk.old))) }
-    ensures durable { OnOk result (IsTrue (K.state desk.old).tells → IsDurable (K.state desk.new)) }
-    ensures goes { GoesOn (LeavesBirth title (K.state desk.old).shown) (K.state desk.old) (K.state desk.new) }
+    ensures durable { OnOk result (IsTrue (K.state desk.new).tells → IsDurable (K.state desk.new)) }
+    ensures goes { Trusts (GoesOn (LeavesBirth title (K.state desk.old).shown)) (K.state desk.old) (K.state desk.new) }
     ensures fails { IfErr result (λ fault. FailsOnDisk fault (K.state desk.old) (K.state desk.new)) }
 {
     begin(desk, title)?;

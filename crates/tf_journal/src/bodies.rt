@@ -27,17 +27,17 @@ pub fn next_body<K: Desk>(
     requires low { 17 ≤ place }
     requires in_file { journal.old.volatile ≡ false }
     ensures found { IsWindowOf (K.state journal.old.desk) window.old
-        → (before rest : List (List ℕ)) → IsTrue (K.state journal.old.desk).tells
+        → (before rest : List (List ℕ)) → IsTrue (K.state journal.new.desk).tells
         → HasBodies K.state journal.old (before ++ rest)
         → place ≡ length (prefix_of journal.old.title before)
         → IfOk result (λ found. IsNext found rest body.new.items) }
     ensures whole { IsWindowOf (K.state journal.old.desk) window.old
-        → (before rest : List (List ℕ)) → IsTrue (K.state journal.old.desk).tells
+        → (before rest : List (List ℕ)) → IsTrue (K.state journal.new.desk).tells
         → HasBodies K.state journal.old (before ++ rest)
         → place ≡ length (prefix_of journal.old.title before)
         → IfErr result IsNoRefusal }
     ensures refuses { IsWindowOf (K.state journal.old.desk) window.old
-        → IsTrue (K.state journal.old.desk).tells
+        → IsTrue (K.state journal.new.desk).tells
         → IfErr result (λ fault. RefusesPlace fault journal.old.title (bytes_now (K.state journal.old.desk)) place) }
     ensures window { IsWindowOf (K.state journal.old.desk) window.old
         → IsWindowOf (K.state journal.new.desk) window.new }

@@ -1,6 +1,6 @@
 ghost use Rattle.std.specs.Prelude.{◌≡◌, ◌≢◌, ◌⊎◌, ◌≤◌, ◌<◌, ◌+◌, ◌++◌, ◌∷◌, [], ℕ, List, None, true, false, IsTrue, length, vec_capacity, OnOk, IfOk, IfErr, MatchResult, Ok};
 ghost use Rattle.tf_numbers.specs.Numbers.{Rises};
-ghost use Rattle.tf_desk.specs.State.{bytes_now, anything, Rests, GoesOn};
+ghost use Rattle.tf_desk.specs.State.{bytes_now, anything, Trusts, Rests, GoesOn};
 ghost use Rattle.tf_journal.specs.Adding.{Adds, AddsAtMost, AddsToDraft, StaysDraft, Publishes, PublishesAtMost, Grows, FailsToAppend, FailsToPublish};
 ghost use Rattle.tf_journal.specs.Answers.{RefusesFile, RefusesRecord, GivesRecord, FailsToCreate, FailsToRead};
 ghost use Rattle.tf_journal.specs.Birth.{born_bytes, draft_bytes};
@@ -78,10 +78,10 @@ impl<K: Desk> Journal<K> {
         requires { IsTrue (K.state desk).tells → is_unborn title (bytes_now (K.state desk)) ≡ true }
         ensures made { IfOk result (λ journal. (journal.title ≡ title) × (journal.size ≡ 18)
             × (journal.halted ≡ false) × (journal.volatile ≡ false)) }
-        ensures born { IfOk result (λ journal. IsTrue (K.state desk).tells
+        ensures born { IfOk result (λ journal. IsTrue (K.state journal.desk).tells
             → bytes_now (K.state journal.desk) ≡ born_bytes title (bytes_now (K.state desk))) }
-        ensures at_rest { IfOk result (λ journal. IsTrue (K.state desk).tells → IsAtRest K.state journal []) }
-        ensures goes { GoesOn (LeavesBirth title (K.state desk).shown)
+        ensures at_rest { IfOk result (λ journal. IsTrue (K.state journal.desk).tells → IsAtRest K.state journal []) }
+        ensures goes { Trusts (GoesOn (LeavesBirth title (K.state desk).shown))
             (K.state desk) (K.state (desk_after result)) }
         ensures fails { IfErr result (λ back. FailsToCreate back.1 (K.state desk) (K.state back.0)) }
         ensures untouched { IfErr result (λ back. back.1 ≡ JournalFault.Memory → back.0 ≡ desk) }
@@ -110,10 +110,10 @@ impl<K: Desk> Journal<K> {
         requires unborn { IsTrue (K.state desk).tells → is_unborn title (bytes_now (K.state desk)) ≡ true }
         ensures made { IfOk result (λ journal. (journal.title ≡ title) × (journal.size ≡ 18)
             × (journal.halted ≡ false) × (journal.volatile ≡ false)) }
-        ensures begun { IfOk result (λ journal. IsTrue (K.state desk).tells
+        ensures begun { IfOk result (λ journal. IsTrue (K.state journal.desk).tells
             → bytes_now (K.state journal.desk) ≡ draft_bytes title (bytes_now (K.state desk))) }
-        ensures drafted { IfOk result (λ journal. IsTrue (K.state desk).tells → IsDrafted K.state journal []) }
-        ensures goes { GoesOn (LeavesUnborn title (K.state desk).shown)
+        ensures drafted { IfOk result (λ journal. IsTrue (K.state journal.desk).tells → IsDrafted K.state journal []) }
+        ensures goes { Trusts (GoesOn (LeavesUnborn title (K.state desk).shown))
             (K.state desk) (K.state (desk_after result)) }
         ensures fails { IfErr result (λ back. FailsToCreate back.1 (K.state desk) (K.state back.0)) }
         ensures untouched { IfErr result (λ back. back.1 ≡ JournalFault.Memory → back.0 ≡ desk) }
@@ -141,15 +141,15 @@ impl<K: Desk> Journal<K> {
     pub fn load(alloc: Global, mut desk: K, title: Title) -> Result<Journal<K>, (K, JournalFault)>
         ensures made { IfOk result (λ journal. (journal.title ≡ title) × (journal.halted ≡ false)
             × (journal.volatile ≡ false)) }
-        ensures recovers { IsTrue (K.state desk).tells → MatchResult result
+        ensures recovers { IsTrue (K.state (desk_after result)).tells → MatchResult result
             (λ journal. (held : List (List ℕ))
             × (recovered title (bytes_now (K.state desk)) ≡ bodies held)
             × IsAtRest K.state journal held)
             (λ back. RefusesFile back.1 (recovered title (bytes_now (K.state desk)))) }
         ensures old_format { IfErr result (λ back. back.1 ≡ JournalFault.Old → title ≡ Title.Book2) }
-        ensures rests { Rests (K.state desk) (K.state (desk_after result)) }
-        ensures synced { IsTrue (K.state desk).tells → IsSynced (K.state desk) (K.state (desk_after result)) }
-        ensures at_sync { IsTrue (K.state desk).tells → IfErr result (λ back. back.1 ≢ JournalFault.Disk)
+        ensures rests { Trusts Rests (K.state desk) (K.state (desk_after result)) }
+        ensures synced { IsTrue (K.state (desk_after result)).tells → IsSynced (K.state desk) (K.state (desk_after result)) }
+        ensures at_sync { IsTrue (K.state (desk_after result)).tells → IfErr result (λ back. back.1 ≢ JournalFault.Disk)
             → HasSynced (K.state desk) (K.state (desk_after result)) }
         ensures cause { IfErr result (λ back. back.1 ≡ JournalFault.Disk
             → Rises (K.state desk).disk_faults (K.state back.0).disk_faults) }
@@ -271,11 +271,11 @@ impl<K: Desk> Journal<K> {
     pub fn body_at(&mut self, place: u64, into: &mut Vec<u8>) -> Result<Option<u64>, JournalFault>
         requires low { 17 ≤ place }
         requires high { place < 67108864 }
-        ensures gives { IsTrue (K.state self.old.desk).tells → self.old.volatile ≡ false
+        ensures gives { IsTrue (K.state self.new.desk).tells → self.old.volatile ≡ false
             → IfOk result
             (λ next. GivesRecord next into.old.items into.new.items
             (record_at self.old.title (bytes_now (K.state self.old.desk)) place)) }
-        ensures refuses { IsTrue (K.state self.old.desk).tells → self.old.volatile ≡ false
+        ensures refuses { IsTrue (K.state self.new.desk).tells → self.old.volatile ≡ false
             → IfErr result
             (λ fault. RefusesRecord fault (record_at self.old.title (bytes_now (K.state self.old.desk)) place)) }
         ensures volatile { self.old.volatile ≡ true → (result ≡ Ok None) × (self.new ≡ self.old)
@@ -315,12 +315,12 @@ impl<K: Desk> Journal<K> {
         into: &mut Vec<u8>,
     ) -> Result<Option<u64>, JournalFault>
         requires { place < 67108864 }
-        ensures gives { IsTrue (K.state self.old.desk).tells → self.old.volatile ≡ false
+        ensures gives { IsTrue (K.state self.new.desk).tells → self.old.volatile ≡ false
             → IsWindow (bytes_now (K.state self.old.desk)) window.old
             → IfOk result
             (λ next. GivesRecord next into.old.items into.new.items
             (record_at self.old.title (bytes_now (K.state self.old.desk)) place)) }
-        ensures refuses { IsTrue (K.state self.old.desk).tells → self.old.volatile ≡ false
+        ensures refuses { IsTrue (K.state self.new.desk).tells → self.old.volatile ≡ false
             → IsWindow (bytes_now (K.state self.old.desk)) window.old
             → IfErr result
             (λ fault. RefusesRecord fault (record_at self.old.title (bytes_now (K.state self.old.desk)) place)) }

@@ -1,6 +1,6 @@
 //! How one record is read.
 ghost use Rattle.std.specs.Prelude.{◌≡◌, ◌≤◌, ◌<◌, ◌+◌, ◌^◌, ℕ, None, IsTrue, length, take, drop, OnOk, IfOk, IfErr};
-ghost use Rattle.tf_desk.specs.State.{bytes_now, Rests};
+ghost use Rattle.tf_desk.specs.State.{bytes_now, Trusts, Rests};
 ghost use Rattle.tf_journal.specs.Answers.{RefusesRecord, GivesRecord, IsNoRefusal, FailsToRead};
 ghost use Rattle.tf_journal.specs.Format.{record_at};
 ghost use Rattle.tf_journal.specs.Reach.{IsWindow};
@@ -20,11 +20,11 @@ fn read_straight<K: Desk>(
     into: &mut Vec<u8>,
 ) -> Result<(), JournalFault>
     requires { at < 2 ^ 63 }
-    ensures bytes { OnOk result (IsTrue (K.state desk.old).tells → at + count ≤ length (bytes_now (K.state desk.old))
+    ensures bytes { OnOk result (IsTrue (K.state desk.new).tells → at + count ≤ length (bytes_now (K.state desk.old))
         → into.new.items ≡ take count (drop at (bytes_now (K.state desk.old)))) }
-    ensures whole { IsTrue (K.state desk.old).tells → at + count ≤ length (bytes_now (K.state desk.old))
+    ensures whole { IsTrue (K.state desk.new).tells → at + count ≤ length (bytes_now (K.state desk.old))
         → IfErr result IsNoRefusal }
-    ensures rests { Rests (K.state desk.old) (K.state desk.new) }
+    ensures rests { Trusts Rests (K.state desk.old) (K.state desk.new) }
     ensures fails { IfErr result (λ fault. FailsToRead fault (K.state desk.old) (K.state desk.new)) }
 {
     into.clear();
@@ -51,14 +51,14 @@ fn read_body<K: Desk>(
     into: &mut Vec<u8>,
 ) -> Result<(), JournalFault>
     requires { at + count < 2 ^ 63 }
-    ensures bytes { OnOk result (IsTrue (K.state desk.old).tells → IsWindow (bytes_now (K.state desk.old)) window.old
+    ensures bytes { OnOk result (IsTrue (K.state desk.new).tells → IsWindow (bytes_now (K.state desk.old)) window.old
         → at + count ≤ length (bytes_now (K.state desk.old))
         → into.new.items ≡ take count (drop at (bytes_now (K.state desk.old)))) }
-    ensures whole { IsTrue (K.state desk.old).tells → at + count ≤ length (bytes_now (K.state desk.old))
+    ensures whole { IsTrue (K.state desk.new).tells → at + count ≤ length (bytes_now (K.state desk.old))
         → IfErr result IsNoRefusal }
-    ensures window { IsTrue (K.state desk.old).tells
+    ensures window { IsTrue (K.state desk.new).tells
         → IsWindow (bytes_now (K.state desk.old)) window.old → IsWindow (bytes_now (K.state desk.old)) window.new }
-    ensures rests { Rests (K.state desk.old) (K.state desk.new) }
+    ensures rests { Trusts Rests (K.state desk.old) (K.state desk.new) }
     ensures fails { IfErr result (λ fault. FailsToRead fault (K.state desk.old) (K.state desk.new)) }
 {
     let Ok(()) = window.reach(desk, at, count) else {
@@ -81,15 +81,15 @@ pub fn read_record<K: Desk>(
     into: &mut Vec<u8>,
 ) -> Result<Option<u64>, JournalFault>
     requires { place < 67108864 }
-    ensures gives { IsTrue (K.state desk.old).tells → IsWindow (bytes_now (K.state desk.old)) window.old
+    ensures gives { IsTrue (K.state desk.new).tells → IsWindow (bytes_now (K.state desk.old)) window.old
         → IfOk result
         (λ next. GivesRecord next into.old.items into.new.items
         (record_at title (bytes_now (K.state desk.old)) place)) }
-    ensures refuses { IsTrue (K.state desk.old).tells → IsWindow (bytes_now (K.state desk.old)) window.old
+    ensures refuses { IsTrue (K.state desk.new).tells → IsWindow (bytes_now (K.state desk.old)) window.old
         → IfErr result (λ fault. RefusesRecord fault (record_at title (bytes_now (K.state desk.old)) place)) }
-    ensures window { IsTrue (K.state desk.old).tells
+    ensures window { IsTrue (K.state desk.new).tells
         → IsWindow (bytes_now (K.state desk.old)) window.old → IsWindow (bytes_now (K.state desk.old)) window.new }
-    ensures rests { Rests (K.state desk.old) (K.state desk.new) }
+    ensures rests { Trusts Rests (K.state desk.old) (K.state desk.new) }
     ensures fails { IfErr result (λ fault. FailsToRead fault (K.state desk.old) (K.state desk.new)) }
 {
     match look_through(desk, window, place, title) {

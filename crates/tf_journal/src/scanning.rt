@@ -1,6 +1,6 @@
 //! What a journal's file is, read a few bytes at a time.
 ghost use Rattle.std.specs.Prelude.{◌≡◌, ◌≢◌, ◌<◌, ◌+◌, ◌*◌, ◌≤◌, List, ℕ, IsTrue, length, take, drop, IfOk, IfErr, OnOk, MatchResult, Err};
-ghost use Rattle.tf_desk.specs.State.{bytes_now, IsDurable, Rests, FailsOnDisk};
+ghost use Rattle.tf_desk.specs.State.{bytes_now, IsDurable, Trusts, Rests, FailsOnDisk};
 ghost use Rattle.tf_journal.specs.Answers.{RefusesFile, FailsToScan, IsScanned, EndsWithin, RefusesScan, RisesAtDisk};
 ghost use Rattle.tf_journal.specs.Format.{bodies, body_limit, records_from, recovered, LiesAs, HasSynced, IsSynced};
 ghost use Rattle.tf_journal.specs.Reach.{IsNear, Shows, EndsScanned, IsWindow};
@@ -86,12 +86,12 @@ pub(crate) fn look_through<K: Desk>(
 ) -> Result<Look, DeskFault>
     requires { place < SIZE_LIMIT }
     ensures near { IfOk result (λ look. IsNear look place) }
-    ensures shows { IfOk result (λ look. IsTrue (K.state desk.old).tells
+    ensures shows { IfOk result (λ look. IsTrue (K.state desk.new).tells
         → IsWindow (bytes_now (K.state desk.old)) window.old
         → Shows title look (bytes_now (K.state desk.old)) place) }
-    ensures window { IsTrue (K.state desk.old).tells
+    ensures window { IsTrue (K.state desk.new).tells
         → IsWindow (bytes_now (K.state desk.old)) window.old → IsWindow (bytes_now (K.state desk.old)) window.new }
-    ensures rests { Rests (K.state desk.old) (K.state desk.new) }
+    ensures rests { Trusts Rests (K.state desk.old) (K.state desk.new) }
     ensures fails { IfErr result (λ fault. FailsOnDisk fault (K.state desk.old) (K.state desk.new)) }
 {
     let mut head = [0; 5];
@@ -107,13 +107,13 @@ pub(crate) fn look_through<K: Desk>(
 /// Reads the records from place 17 on of a journal of that title and size.
 fn scan_records<K: Desk>(desk: &mut K, size: u64, title: Title) -> Result<Scanned, ScanFault>
     requires { IsTrue (K.state desk.old).tells → length (bytes_now (K.state desk.old)) ≡ size }
-    ensures scanned { IsTrue (K.state desk.old).tells → 18 ≤ length (bytes_now (K.state desk.old))
+    ensures scanned { IsTrue (K.state desk.new).tells → 18 ≤ length (bytes_now (K.state desk.old))
         → MatchResult result (λ scanned. EndsScanned title scanned (bytes_now (K.state desk.old)))
         (λ fault. RefusesScan fault
         (records_from title (length (bytes_now (K.state desk.old))) (bytes_now (K.state desk.old)) 17)) }
     ensures never_old { result ≢ Err ScanFault.Old }
     ensures bounds { IfOk result EndsWithin }
-    ensures rests { Rests (K.state desk.old) (K.state desk.new) }
+    ensures rests { Trusts Rests (K.state desk.old) (K.state desk.new) }
     ensures fails { IfErr result (λ fault. RisesAtDisk fault (K.state desk.old) (K.state desk.new)) }
 {
     let mut window = Window::make(size);
@@ -140,15 +140,15 @@ fn scan_records<K: Desk>(desk: &mut K, size: u64, title: Title) -> Result<Scanne
 /// Syncs the file, and reads its size and its first bytes.
 pub fn read_start<K: Desk>(desk: &mut K, head: &mut [u8; 18]) -> Result<(u64, usize), DeskFault>
     ensures bound { IfOk result (λ start. start.1 ≤ 18) }
-    ensures size { IfOk result (λ start. IsTrue (K.state desk.old).tells
+    ensures size { IfOk result (λ start. IsTrue (K.state desk.new).tells
         → length (bytes_now (K.state desk.old)) ≡ start.0) }
-    ensures bytes { IfOk result (λ start. IsTrue (K.state desk.old).tells
+    ensures bytes { IfOk result (λ start. IsTrue (K.state desk.new).tells
         → take start.1 head.new ≡ take 18 (bytes_now (K.state desk.old))) }
-    ensures durable { OnOk result (IsTrue (K.state desk.old).tells → IsDurable (K.state desk.new)) }
-    ensures rests { Rests (K.state desk.old) (K.state desk.new) }
-    ensures synced { IsTrue (K.state desk.old).tells
+    ensures durable { OnOk result (IsTrue (K.state desk.new).tells → IsDurable (K.state desk.new)) }
+    ensures rests { Trusts Rests (K.state desk.old) (K.state desk.new) }
+    ensures synced { IsTrue (K.state desk.new).tells
         → IsSynced (K.state desk.old) (K.state desk.new) }
-    ensures at_sync { OnOk result (IsTrue (K.state desk.old).tells
+    ensures at_sync { OnOk result (IsTrue (K.state desk.new).tells
         → HasSynced (K.state desk.old) (K.state desk.new)) }
     ensures fails { IfErr result (λ fault. FailsOnDisk fault (K.state desk.old) (K.state desk.new)) }
 {
@@ -163,16 +163,16 @@ pub fn read_start<K: Desk>(desk: &mut K, head: &mut [u8; 18]) -> Result<(u64, us
 /// disk faults rose. The file is synced first, and none changes. It takes no memory: records are read through a window,
 /// whose one read serves all that lie in it.
 pub fn scan<K: Desk>(desk: &mut K, title: Title) -> Result<Scanned, ScanFault>
-    ensures scanned { IsTrue (K.state desk.old).tells → MatchResult result
+    ensures scanned { IsTrue (K.state desk.new).tells → MatchResult result
         (λ scanned. IsScanned scanned title (bytes_now (K.state desk.old)))
         (λ fault. RefusesScan fault (recovered title (bytes_now (K.state desk.old)))) }
     ensures old_format { result ≡ Err ScanFault.Old → title ≡ Title.Book2 }
-    ensures durable { OnOk result (IsTrue (K.state desk.old).tells → IsDurable (K.state desk.new)) }
+    ensures durable { OnOk result (IsTrue (K.state desk.new).tells → IsDurable (K.state desk.new)) }
     ensures bounds { IfOk result EndsWithin }
-    ensures rests { Rests (K.state desk.old) (K.state desk.new) }
-    ensures synced { IsTrue (K.state desk.old).tells
+    ensures rests { Trusts Rests (K.state desk.old) (K.state desk.new) }
+    ensures synced { IsTrue (K.state desk.new).tells
         → IsSynced (K.state desk.old) (K.state desk.new) }
-    ensures at_sync { IsTrue (K.state desk.old).tells → result ≢ Err ScanFault.Disk
+    ensures at_sync { IsTrue (K.state desk.new).tells → result ≢ Err ScanFault.Disk
         → HasSynced (K.state desk.old) (K.state desk.new) }
     ensures fails { IfErr result (λ fault. RisesAtDisk fault (K.state desk.old) (K.state desk.new)) }
 {
@@ -191,17 +191,17 @@ pub fn scan<K: Desk>(desk: &mut K, title: Title) -> Result<Scanned, ScanFault>
 /// The place after the gate that ends the picked file's records. `Unborn`, `Old` and `NotABook` come exactly where the
 /// file is so, and `Disk` only where the count of disk faults rose. The file is synced first.
 pub fn find_end<K: Desk>(desk: &mut K, title: Title) -> Result<u64, JournalFault>
-    ensures scanned { IsTrue (K.state desk.old).tells → MatchResult result
+    ensures scanned { IsTrue (K.state desk.new).tells → MatchResult result
         (λ end. (held : List (List ℕ)) × (recovered title (bytes_now (K.state desk.old)) ≡ bodies held)
         × LiesAs title held end (bytes_now (K.state desk.new)))
         (λ fault. RefusesFile fault (recovered title (bytes_now (K.state desk.old)))) }
     ensures old_format { result ≡ Err JournalFault.Old → title ≡ Title.Book2 }
-    ensures durable { OnOk result (IsTrue (K.state desk.old).tells → IsDurable (K.state desk.new)) }
+    ensures durable { OnOk result (IsTrue (K.state desk.new).tells → IsDurable (K.state desk.new)) }
     ensures bounds { IfOk result (λ end. (18 ≤ end) × (end ≤ 67108864)) }
-    ensures rests { Rests (K.state desk.old) (K.state desk.new) }
-    ensures synced { IsTrue (K.state desk.old).tells
+    ensures rests { Trusts Rests (K.state desk.old) (K.state desk.new) }
+    ensures synced { IsTrue (K.state desk.new).tells
         → IsSynced (K.state desk.old) (K.state desk.new) }
-    ensures at_sync { IsTrue (K.state desk.old).tells → result ≢ Err JournalFault.Disk
+    ensures at_sync { IsTrue (K.state desk.new).tells → result ≢ Err JournalFault.Disk
         → HasSynced (K.state desk.old) (K.state desk.new) }
     ensures fails { IfErr result (λ fault. FailsToScan fault (K.state desk.old) (K.state desk.new)) }
 {

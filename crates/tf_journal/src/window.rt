@@ -1,6 +1,6 @@
 //! A file through a window: one read of the disk serves as many records as lie in it.
 ghost use Rattle.std.specs.Prelude.{◌≡◌, ◌≤◌, ◌<◌, ◌+◌, ◌-◌, ◌^◌, List, ℕ, true, Ok, IsTrue, length, take, drop, IfOk, IfErr, OnOk};
-ghost use Rattle.tf_desk.specs.State.{bytes_now, Rests, FailsOnDisk};
+ghost use Rattle.tf_desk.specs.State.{bytes_now, Trusts, Rests, FailsOnDisk};
 ghost use Rattle.tf_journal.specs.Reach.{IsWindow};
 
 use tf_desk::{Desk, DeskFault};
@@ -44,13 +44,13 @@ impl Window {
 
     /// Reads the file from that place on into the window, in place of what it has.
     fn fill<K: Desk>(&mut self, desk: &mut K, place: u64) -> Result<(), DeskFault>
-        ensures shows { IsTrue (K.state desk.old).tells
+        ensures shows { IsTrue (K.state desk.new).tells
             → IsWindow (bytes_now (K.state desk.old)) self.old → IsWindow (bytes_now (K.state desk.old)) self.new }
-        ensures all { OnOk result (IsTrue (K.state desk.old).tells
+        ensures all { OnOk result (IsTrue (K.state desk.new).tells
             → take self.new.count self.new.bytes ≡ take 4096 (drop place (bytes_now (K.state desk.old)))) }
         ensures within { OnOk result ((self.new.count ≤ 4096) × (length self.new.bytes ≡ 4096)) }
         ensures size { self.new.size ≡ self.old.size }
-        ensures rests { Rests (K.state desk.old) (K.state desk.new) }
+        ensures rests { Trusts Rests (K.state desk.old) (K.state desk.new) }
         ensures fails { IfErr result (λ fault. FailsOnDisk fault (K.state desk.old) (K.state desk.new)) }
     {
         let mut bytes = [0; WIDTH];
@@ -71,13 +71,13 @@ impl Window {
     ) -> Result<usize, DeskFault>
         requires { place < 2 ^ 63 }
         ensures bound { IfOk result (λ n. n ≤ 5) }
-        ensures bytes { IfOk result (λ n. IsTrue (K.state desk.old).tells
+        ensures bytes { IfOk result (λ n. IsTrue (K.state desk.new).tells
             → IsWindow (bytes_now (K.state desk.old)) self.old
             → take n head.new ≡ take 5 (drop place (bytes_now (K.state desk.old)))) }
-        ensures shows { IsTrue (K.state desk.old).tells
+        ensures shows { IsTrue (K.state desk.new).tells
             → IsWindow (bytes_now (K.state desk.old)) self.old → IsWindow (bytes_now (K.state desk.old)) self.new }
         ensures size { self.new.size ≡ self.old.size }
-        ensures rests { Rests (K.state desk.old) (K.state desk.new) }
+        ensures rests { Trusts Rests (K.state desk.old) (K.state desk.new) }
         ensures fails { IfErr result (λ fault. FailsOnDisk fault (K.state desk.old) (K.state desk.new)) }
     {
         if self.covers(place, 5) {
@@ -100,9 +100,9 @@ impl Window {
         count: u64,
     ) -> Result<(), DeskFault>
         requires { place + count < 2 ^ 64 }
-        ensures shows { IsTrue (K.state desk.old).tells
+        ensures shows { IsTrue (K.state desk.new).tells
             → IsWindow (bytes_now (K.state desk.old)) self.old → IsWindow (bytes_now (K.state desk.old)) self.new }
-        ensures rests { Rests (K.state desk.old) (K.state desk.new) }
+        ensures rests { Trusts Rests (K.state desk.old) (K.state desk.new) }
         ensures fails { IfErr result (λ fault. FailsOnDisk fault (K.state desk.old) (K.state desk.new)) }
     {
         if count > WIDTH as u64 || self.covers(place, count) {

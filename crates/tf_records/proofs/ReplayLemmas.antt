@@ -3,9 +3,8 @@ use Rattle.std.proofs.Common.{◌≡◌, ◌≢◌, ◌<◌, ℕ, ◌+◌, true,
 use Rattle.std.specs.Prelude.{IsTrue, slice_get}
 use Rattle.std.specs.List.{flat_map}
 use Rattle.tf_numbers.specs.Numbers.{Rises}
-use Rattle.tf_desk.specs.State.{DeskState, Rests}
+use Rattle.tf_desk.specs.State.{DeskState, Trusts, Rests}
 use Rattle.tf_desk.proofs.CountLemmas.{rises_later}
-use Rattle.tf_desk.proofs.StateLemmas.{on_disk_told}
 use Rattle.tf_journal.specs.Format.{SIZE_LIMIT, OPEN, Recovered, bodies, record_of, title_of, prefix_of, Held, IsAtRest}
 use Rattle.tf_journal.specs.Reading.{IsNext, IsNoRefusal, HasBodies, OnlyReads}
 use Rattle.tf_journal.specs.declared.faults.LoadFault.{LoadFault}
@@ -14,7 +13,7 @@ use Rattle.tf_journal.specs.declared.title.Title.{Title}
 use Rattle.tf_journal.proofs.HeaderLemmas.{sixteen}
 use Rattle.tf_journal.proofs.PlaceLemmas.{first_place}
 use Rattle.tf_journal.proofs.ReachLemmas.{flat_map-push, length-record_of}
-use Rattle.tf_journal.proofs.ReadingLemmas.{bodies_stay, told_is}
+use Rattle.tf_journal.proofs.ReadingLemmas.{bodies_stay}
 use Rattle.tf_values.specs.declared.faults.MakeFault.{MakeFault}
 use Rattle.tf_values.specs.declared.faults.MakeFault.TheVariants as make_fault
 use Rattle.tf_records.specs.Refusing.{HasRefusedBody, RefusesBodies, RefusesMalformed, bad_body}
@@ -55,16 +54,21 @@ module _ {K R : Type 0} (state : K → DeskState) (replayed : R → List (List �
   abbrev Reads : Held K → Held K → Type 0
   Reads old new = OnlyReads state old new
 
-  abbrev Read : Held K → R → ℕ → Type 0
-  Read j made place = HasReadTo state replayed j made place
+  abbrev Read : Held K → K → R → ℕ → Type 0
+  Read j desk made place = HasReadTo state replayed j desk made place
 
-  -- what a look at that place says of the bodies behind those before it
-  abbrev FindsSo : Held K → ℕ → (List (List ℕ) → Type 0) → Type 0
-  FindsSo j place Says = (before rest : List (List ℕ)) → IsTrue (state j.desk).tells → HasBodies state j (before ++ rest) → place ≡ length (prefix_of j.title before) → Says rest
+  -- what a look at that place, after which the desk is this one, says of the bodies behind those before it
+  abbrev FindsSo : Held K → K → ℕ → (List (List ℕ) → Type 0) → Type 0
+  FindsSo j desk place Says =
+      (before rest : List (List ℕ)) → IsTrue (state desk).tells → HasBodies state j (before ++ rest) → place ≡ length (prefix_of j.title before) → Says rest
+
+  -- what is told after a look was told before it
+  abbrev Told : Held K → K → Type 0
+  Told j desk = IsTrue (state desk).tells → IsTrue (state j.desk).tells
 
   -- no body was read yet
-  pub read_none : (j : Held K) (made : R) → replayed made [] → Read j made 17
-  read_none j made none = record {
+  pub read_none : (j : Held K) (desk : K) (made : R) → replayed made [] → Read j desk made 17
+  read_none j desk made none = record {
     before = [];
     is_replayed = none;
     place_is = sym (first_place j.title (sixteen j.title));
@@ -72,36 +76,37 @@ module _ {K R : Type 0} (state : K → DeskState) (replayed : R → List (List �
   }
 
   -- what was found at the next gate comes behind the bodies so far
-  pub found_behind : (a b : Held K) (made : R) (place : ℕ) (Says : List (List ℕ) → Type 0) (read : Read a made place) → Reads a b → FindsSo b place Says
-      → IsTrue (state a.desk).tells → (held : List (List ℕ)) → HasBodies state a held → (rest : List (List ℕ)) × (held ≡ read.before ++ rest) × Says rest
-  found_behind a b made place Says read reads found told held lies =
-      let first = read.begins told held lies in
+  pub found_behind : (a b : Held K) (desk : K) (made : R) (place : ℕ) (Says : List (List ℕ) → Type 0) (read : Read a b.desk made place) → Reads a b → FindsSo b desk place Says
+      → Told b desk → IsTrue (state desk).tells → (held : List (List ℕ)) → HasBodies state a held → (rest : List (List ℕ)) × (held ≡ read.before ++ rest) × Says rest
+  found_behind a b desk made place Says read reads found falls told held lies =
+      let told_before = falls told in
+      let first = read.begins told_before held lies in
       let title : b.title ≡ a.title = ap (λ (h : Held K). h.title) reads.journal in (
         first.0,
         first.1,
-        found read.before first.0 (told_is state a b reads told)
-            (subst (λ (h : List (List ℕ)). HasBodies state b h) first.1 (bodies_stay state a b reads told held lies))
+        found read.before first.0 told
+            (subst (λ (h : List (List ℕ)). HasBodies state b h) first.1 (bodies_stay state a b reads told_before held lies))
             (read.place_is ∙ ap (λ (t : Title). length (prefix_of t read.before)) (sym title)),
       )
 
   -- one body more was replayed
-  pub read_on : (a b : Held K) (old new : R) (place next : ℕ) (body : List ℕ) (read : Read a old place) → Reads a b → FindsSo b place (λ rest. IsNext true rest body)
-      → ((before : List (List ℕ)) → replayed old before → replayed new (before ++ body ∷ [])) → next ≡ place + (5 + length body) → Read a new next
-  read_on a b old new place next body read reads found one moved = record {
+  pub read_on : (a b : Held K) (desk : K) (old new : R) (place next : ℕ) (body : List ℕ) (read : Read a b.desk old place) → Reads a b → FindsSo b desk place (λ rest. IsNext true rest body)
+      → Told b desk → ((before : List (List ℕ)) → replayed old before → replayed new (before ++ body ∷ [])) → next ≡ place + (5 + length body) → Read a desk new next
+  read_on a b desk old new place next body read reads found falls one moved = record {
     before = read.before ++ body ∷ [];
     is_replayed = one read.before read.is_replayed;
     place_is = omega (arith, moved, read.place_is, place_on a.title read.before body);
     begins = λ told held lies.
-        let n = found_behind a b old place (λ rest. IsNext true rest body) read reads found told held lies in
+        let n = found_behind a b desk old place (λ rest. IsNext true rest body) read reads found falls told held lies in
         (n.2.0, n.1 ∙ ap (λ (r : List (List ℕ)). read.before ++ r) n.2.1 ∙ sym (append_assoc read.before (body ∷ []) n.2.0));
   }
 
   -- a body was refused
-  pub read_refused : (refuses : List (List ℕ) → List ℕ → Type 0) (a b : Held K) (made : R) (place offset : ℕ) (body : List ℕ) (byte : Option ℕ) (read : Read a made place) → Reads a b
-      → FindsSo b place (λ rest. IsNext true rest body) → ((before : List (List ℕ)) → replayed made before → refuses before body) → offset ≡ place + 5 → byte ≡ slice_get body 0
-      → IsTrue (state a.desk).tells → (held : List (List ℕ)) → HasBodies state a held → HasRefusedBody a.title refuses held offset byte
-  read_refused refuses a b made place offset body byte read reads found cannot at its told held lies =
-      let n = found_behind a b made place (λ rest. IsNext true rest body) read reads found told held lies in
+  pub read_refused : (refuses : List (List ℕ) → List ℕ → Type 0) (a b : Held K) (desk : K) (made : R) (place offset : ℕ) (body : List ℕ) (byte : Option ℕ) (read : Read a b.desk made place) → Reads a b
+      → FindsSo b desk place (λ rest. IsNext true rest body) → Told b desk → ((before : List (List ℕ)) → replayed made before → refuses before body) → offset ≡ place + 5 → byte ≡ slice_get body 0
+      → IsTrue (state desk).tells → (held : List (List ℕ)) → HasBodies state a held → HasRefusedBody a.title refuses held offset byte
+  read_refused refuses a b desk made place offset body byte read reads found falls cannot at its told held lies =
+      let n = found_behind a b desk made place (λ rest. IsNext true rest body) read reads found falls told held lies in
       record {
         before = read.before;
         body = body;
@@ -113,23 +118,23 @@ module _ {K R : Type 0} (state : K → DeskState) (replayed : R → List (List �
       }
 
   -- nothing is left
-  pub read_out : (a b : Held K) (made : R) (place : ℕ) (read : Read a made place) → Reads a b → FindsSo b place (λ rest. rest ≡ []) → place + 1 ≡ a.size → place < SIZE_LIMIT
-      → HasReadAll state replayed a made
-  read_out a b made place read reads found ends below = record {
+  pub read_out : (a b : Held K) (desk : K) (made : R) (place : ℕ) (read : Read a b.desk made place) → Reads a b → FindsSo b desk place (λ rest. rest ≡ []) → Told b desk → place + 1 ≡ a.size
+      → place < SIZE_LIMIT → HasReadAll state replayed a desk made
+  read_out a b desk made place read reads found falls ends below = record {
     bodies = read.before;
     is_replayed = read.is_replayed;
     size = omega (arith, ends, read.place_is);
     limit = omega (arith, ends, below);
     whole = λ told held lies.
-        let n = found_behind a b made place (λ rest. rest ≡ []) read reads found told held lies in
+        let n = found_behind a b desk made place (λ rest. rest ≡ []) read reads found falls told held lies in
         n.1 ∙ ap (λ (r : List (List ℕ)). read.before ++ r) n.2 ∙ append-nil read.before;
   }
 
   -- a file that is told ends where its size says
-  pub read_ends : (a b : Held K) (made : R) (place : ℕ) (read : Read a made place) → Reads a b → FindsSo b place (λ rest. rest ≡ []) → place + 1 ≢ a.size
-      → IsTrue (state a.desk).tells → (held : List (List ℕ)) → HasBodies state a held → ⊥
-  read_ends a b made place read reads found apart told held lies =
-      let n = found_behind a b made place (λ rest. rest ≡ []) read reads found told held lies in
+  pub read_ends : (a b : Held K) (desk : K) (made : R) (place : ℕ) (read : Read a b.desk made place) → Reads a b → FindsSo b desk place (λ rest. rest ≡ []) → Told b desk → place + 1 ≢ a.size
+      → IsTrue (state desk).tells → (held : List (List ℕ)) → HasBodies state a held → ⊥
+  read_ends a b desk made place read reads found falls apart told held lies =
+      let n = found_behind a b desk made place (λ rest. rest ≡ []) read reads found falls told held lies in
       let whole : held ≡ read.before = n.1 ∙ ap (λ (r : List (List ℕ)). read.before ++ r) n.2 ∙ append-nil read.before in
       let same : length (prefix_of a.title held) ≡ length (prefix_of a.title read.before) = ap (λ (h : List (List ℕ)). length (prefix_of a.title h)) whole in
       apart (omega (arith, lies.place, same, read.place_is))
@@ -138,13 +143,13 @@ module _ {K R : Type 0} (state : K → DeskState) (replayed : R → List (List �
 
 -- what the fault says of the file that was opened as this journal is so, and a fault of the disk has its cause
 pub unread : {K : Type 0} (state : K → DeskState) (refuses : List (List ℕ) → List ℕ → Type 0) (title : Title) (file : Recovered) (desk : K) (journal : Held K) (fault : LoadFault) (back : K)
-    → journal.title ≡ title → Rests (state desk) (state journal.desk) → (IsTrue (state desk).tells → (held : List (List ℕ)) × (file ≡ bodies held) × IsAtRest state journal held)
-    → FailsToReadBack state refuses fault journal back
-    → (IsTrue (state desk).tells → RefusesMalformed title refuses fault file) × (fault ≡ load_fault.Disk → Rises (state desk).disk_faults (state back).disk_faults)
-unread state refuses title file desk journal fault back titled rests lies fails = (
+    → journal.title ≡ title → Trusts Rests (state desk) (state journal.desk) → (IsTrue (state journal.desk).tells → (held : List (List ℕ)) × (file ≡ bodies held) × IsAtRest state journal held)
+    → FailsToReadBack state refuses fault journal back → (IsTrue (state back).tells → IsTrue (state journal.desk).tells)
+    → (IsTrue (state back).tells → RefusesMalformed title refuses fault file) × (fault ≡ load_fault.Disk → Rises (state desk).disk_faults (state back).disk_faults)
+unread state refuses title file desk journal fault back titled rests lies fails falls = (
   λ told.
-      let held = lies told in
+      let held = lies (falls told) in
       refuses_malformed title refuses fault held.0 file held.1
-      (subst (λ (t : Title). RefusesBodies t refuses fault held.0) titled (fails.refused (on_disk_told rests.on_disk told) held.0 held.2.lies)),
-  λ is. rises_later (state desk).disk_faults (state journal.desk).disk_faults (state back).disk_faults rests.on_disk.disk_faults (fails.cause is),
+      (subst (λ (t : Title). RefusesBodies t refuses fault held.0) titled (fails.refused told held.0 held.2.lies)),
+  λ is. rises_later (state desk).disk_faults (state journal.desk).disk_faults (state back).disk_faults rests.does.on_disk.disk_faults (fails.cause is),
 )

@@ -43,7 +43,7 @@ pub fn read_back<K: Desk, R: Replay>(
 ) -> Result<(), LoadFault>
     requires in_file { journal.old.volatile ≡ false }
     requires none { R.replayed into.old [] }
-    ensures read { OnOk result (HasReadAll K.state R.replayed journal.old into.new) }
+    ensures read { OnOk result (HasReadAll K.state R.replayed journal.old journal.new.desk into.new) }
     ensures fixed { OnOk result (R.fixed into.new ≡ R.fixed into.old) }
     ensures fails { IfErr result (λ fault. FailsToReadBack K.state R.refuses fault journal.old journal.new.desk) }
     ensures reads { OnlyReads K.state journal.old journal.new }

@@ -1,7 +1,7 @@
 use Rattle.std.proofs.Common.{◌≡◌, ℕ, List, length, take, IsTrue, Result, Ok, Err, OnOk, ◌∷◌, sym, ◌∙◌, ap, subst, arith}
 use Rattle.std.proofs.lemmas.Result.{MatchResult-weaker}
 use Rattle.tf_desk.specs.State.{bytes_now, IsDurable}
-use Rattle.tf_desk.proofs.StateLemmas.{on_disk_told, bytes_stay, durable_on}
+use Rattle.tf_desk.proofs.StateLemmas.{bytes_stay, trusts_files, durable_on}
 use Rattle.tf_journal.specs.declared.faults.ScanFault.{ScanFault}
 use Rattle.tf_journal.specs.declared.scanning.Scanned.{Scanned}
 use Rattle.tf_journal.specs.declared.scanning.Scanned.TheVariants as scanned
@@ -22,11 +22,11 @@ returns-in-Titled-clause-scanned g c =
     let title = c.args.title in
     let bytes = bytes_now (S old) in
     λ told.
-    let still : IsTrue (S mid).tells = on_disk_told c.read_start.ensures.rests.on_disk told in
-    let same : bytes_now (S mid) ≡ bytes = bytes_stay (c.read_start.ensures.rests.files told) in
-    let size : length bytes ≡ c.in-Ok.size = c.in-Ok.ensures.size told in
-    let titled = c.in-Titled.ensures.shows bytes (c.in-Ok.ensures.bytes told) size in
-    let ends = c.scan_records.ensures.scanned still (omega (arith, titled.1, ap length same)) in
+    let still : IsTrue (S mid).tells = c.scan_records.ensures.rests.falls told in
+    let same : bytes_now (S mid) ≡ bytes = bytes_stay (trusts_files c.read_start.ensures.rests still) in
+    let size : length bytes ≡ c.in-Ok.size = c.in-Ok.ensures.size still in
+    let titled = c.in-Titled.ensures.shows bytes (c.in-Ok.ensures.bytes still) size in
+    let ends = c.scan_records.ensures.scanned told (omega (arith, titled.1, ap length same)) in
     MatchResult-weaker c.scan_records.result {P = λ found. EndsScanned title found (bytes_now (S mid))} {P' = λ found. IsScanned found title bytes}
     {Q = λ fault. RefusesScan fault (records_from title (length (bytes_now (S mid))) (bytes_now (S mid)) 17)} {Q' = λ fault. RefusesScan fault (recovered title bytes)}
     ends
@@ -48,10 +48,10 @@ returns-in-Titled-clause-durable g c =
     let S = g.K.Desk.state in
     let mid = c.read_start.new.desk in
     let new = c.scan_records.new.desk in
-    let kept : IsTrue (S c.args.desk.now).tells → IsDurable (S new) = λ told.
-    let still : IsTrue (S mid).tells = on_disk_told c.read_start.ensures.rests.on_disk told in
-    durable_on (c.scan_records.ensures.rests.files still) (c.in-Ok.ensures.durable told) in
-    ok_anyway c.scan_records.result (IsTrue (S c.args.desk.now).tells → IsDurable (S new)) kept
+    let kept : IsTrue (S new).tells → IsDurable (S new) = λ told.
+    let still : IsTrue (S mid).tells = c.scan_records.ensures.rests.falls told in
+    durable_on (trusts_files c.scan_records.ensures.rests told) (c.in-Ok.ensures.durable still) in
+    ok_anyway c.scan_records.result (IsTrue (S new).tells → IsDurable (S new)) kept
   where
     ok_anyway : (r : Result Scanned ScanFault) (P : Type 0) → P → OnOk r P
     ok_anyway (Ok n) P p = p

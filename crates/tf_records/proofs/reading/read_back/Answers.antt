@@ -13,7 +13,7 @@ use Rattle.tf_records.proofs.reading.read_back.Goals as goal
 pub reading-init : goal.reading-init
 reading-init g c = record {
   low = omega arith;
-  read = read_none g.K.Desk.state g.R.Replay.replayed c.args.journal.now c.args.into.now c.requires.none;
+  read = read_none g.K.Desk.state g.R.Replay.replayed c.args.journal.now c.window.new.self.desk c.args.into.now c.requires.none;
   fixed = refl;
   window = c.in-Ok.ensures.shows c.requires.in_file;
   reads = c.window.ensures.reads;
@@ -29,9 +29,9 @@ returns-in_err-next_body-clause-fails g c =
     let p = err_from_is_err_and c.from_residual.result c.from_residual.ensures.1 in
     rw (p.1, p.2)
     (record {
-      refused = λ told held lies. refuses_nothing _ _ _ held (found_behind D.state g.R.Replay.replayed _ _ _ _ (λ rest. IsNoRefusal c.in_err-next_body.field-0.0) l.read l.reads (c.in_err-next_body.ensures.whole l.window) told held lies).2;
+      refused = λ told held lies. refuses_nothing _ _ _ held (found_behind D.state g.R.Replay.replayed _ _ c.next_body.new.journal.desk _ _ (λ rest. IsNoRefusal c.in_err-next_body.field-0.0) l.read l.reads (c.in_err-next_body.ensures.whole l.window) c.next_body.ensures.reads.rests.falls told held lies).2;
       cause = λ is. rises_later (D.state c.args.journal.now.desk).disk_faults (D.state c.reading.journal.desk).disk_faults (D.state c.next_body.new.journal.desk).disk_faults
-          l.reads.rests.on_disk.disk_faults (c.in_err-next_body.ensures.cause (ap (λ f. Err f) is));
+          l.reads.rests.does.on_disk.disk_faults (c.in_err-next_body.ensures.cause (ap (λ f. Err f) is));
       new_format = c.in_err-next_body.ensures.never_old;
     })
 
@@ -43,8 +43,9 @@ returns-in-Err-clause-fails g c =
     record {
       refused = λ told held lies.
           refuses_so _ R.refuses c.in-Err.fault c.refusal.result held _ _ c.refusal.ensures.no c.refusal.ensures.memory
-          (λ is. read_refused g.K.Desk.state R.replayed R.refuses _ _ _ _ _ items _ l.read l.reads
+          (λ is. read_refused g.K.Desk.state R.replayed R.refuses _ _ c.next_body.new.journal.desk _ _ _ items _ l.read l.reads
           (λ before rest told_now rest_now at. subst (λ (v : Bool). IsNext v rest items) c.if-not-branch.false (c.in_ok-next_body.ensures.found l.window before rest told_now rest_now at))
+          c.next_body.ensures.reads.rests.falls
           (λ before kept. subst (λ (b : List ℕ). R.refuses before b) c.deref.ensures.value (c.in-Err.ensures.refused (ap (λ f. Err f) is) before kept))
           (search rules) (ap (λ (b : List ℕ). slice_get b 0) c.deref-in-Err.ensures.value) told held lies);
       cause = λ is. absurd {A = Rises (g.K.Desk.state c.args.journal.now.desk).disk_faults (g.K.Desk.state c.next_body.new.journal.desk).disk_faults} (c.refusal.ensures.no_disk is);
@@ -58,8 +59,9 @@ reading-preserved g c =
     let items = c.next_body.new.body.items in
     record {
       low = omega (arith, l.low);
-      read = read_on g.K.Desk.state R.replayed _ _ _ _ _ _ items l.read l.reads
+      read = read_on g.K.Desk.state R.replayed _ _ c.next_body.new.journal.desk _ _ _ _ items l.read l.reads
           (λ before rest told_now rest_now at. subst (λ (v : Bool). IsNext v rest items) c.if-not-branch.false (c.in_ok-next_body.ensures.found l.window before rest told_now rest_now at))
+          c.next_body.ensures.reads.rests.falls
           (λ before kept. subst (λ (b : List ℕ). R.replayed c.replay.new.self (before ++ b ∷ [])) c.deref.ensures.value (c.in-Ok-replay.ensures.replayed before kept)) (search rules);
       fixed = c.in-Ok-replay.ensures.fixed ∙ l.fixed;
       window = c.in_ok-next_body.ensures.window l.window;
@@ -73,8 +75,9 @@ returns-then-place-size-clause-fails g c =
     let size : c.size.result ≡ c.args.journal.now.size = c.size.ensures ∙ ap (λ (h : Held _). h.size) reads.journal in
     record {
       refused = λ told held lies.
-          absurd {A = HasRefusedBody c.args.journal.now.title g.R.Replay.refuses held c.reading.place None} (read_ends g.K.Desk.state g.R.Replay.replayed _ _ _ _ l.read l.reads
+          absurd {A = HasRefusedBody c.args.journal.now.title g.R.Replay.refuses held c.reading.place None} (read_ends g.K.Desk.state g.R.Replay.replayed _ _ c.next_body.new.journal.desk _ _ l.read l.reads
           (λ before rest told_now rest_now at. subst (λ (v : Bool). IsNext v rest c.next_body.new.body.items) c.if-not-branch.true (c.in_ok-next_body.ensures.found l.window before rest told_now rest_now at))
+          c.next_body.ensures.reads.rests.falls
           (λ same. c.if-place-size.true (same ∙ sym size)) told held lies);
       cause = λ is. absurd {A = Rises (g.K.Desk.state c.args.journal.now.desk).disk_faults (g.K.Desk.state c.next_body.new.journal.desk).disk_faults} (cc);
       new_format = λ is. cc;
@@ -85,8 +88,9 @@ returns-clause-read g c =
     let l = c.reading.invariant in
     let reads = reads_on g.K.Desk.state _ _ _ l.reads c.in_ok-next_body.ensures.reads in
     let size : c.size.result ≡ c.args.journal.now.size = c.size.ensures ∙ ap (λ (h : Held _). h.size) reads.journal in
-    read_out g.K.Desk.state g.R.Replay.replayed _ _ _ _ l.read l.reads
+    read_out g.K.Desk.state g.R.Replay.replayed _ _ c.next_body.new.journal.desk _ _ l.read l.reads
     (λ before rest told_now rest_now at. subst (λ (v : Bool). IsNext v rest c.next_body.new.body.items) c.if-not-branch.true (c.in_ok-next_body.ensures.found l.window before rest told_now rest_now at))
+          c.next_body.ensures.reads.rests.falls
     (omega (arith, size, c.if-place-size.false)) c.in_ok-next_body.ensures.within
 
 pub returns-in_err-next_body-clause-reads : goal.returns-in_err-next_body-clause-reads

@@ -6,7 +6,7 @@ use Rattle.tf_records.proofs.reading.read_back.Given as goal
 abbrev pub invariant-reading : goal.invariant-reading
 invariant-reading g l = record {
   low : 17 ≤ l.place;
-  read : HasReadTo g.K.Desk.state g.R.Replay.replayed l.fn.journal l.into l.place;
+  read : HasReadTo g.K.Desk.state g.R.Replay.replayed l.fn.journal l.journal.desk l.into l.place;
   fixed : g.R.Replay.fixed l.into ≡ g.R.Replay.fixed l.fn.into;
   window : IsWindowOf (g.K.Desk.state l.journal.desk) l.window;
   reads : OnlyReads g.K.Desk.state l.fn.journal l.journal;
