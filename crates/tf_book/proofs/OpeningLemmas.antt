@@ -28,7 +28,7 @@ use Rattle.tf_book.specs.declared.history.History.{History}
 
 -- a journal that was read back whole has the elements that were read
 pub read_holds : {K H : Type 0} (state : K → DeskState) (keeps : H → List Entry → Type 0) (old now : Held K) (g : Gathering H) → old.title ≡ book_title → old.halted ≡ false → old.volatile ≡ false
-    → (IsTrue (state old.desk).tells → (held : List (List ℕ)) × IsAtRest state old held) → HasReadAll state (HasGathered keeps) old g → OnlyReads state old now
+    → (IsTrue (state old.desk).tells → (held : List (List ℕ)) × IsAtRest state old held) → HasReadAll state (HasGathered keeps) old now.desk g → OnlyReads state old now
     → HoldsElements state now (elements_in g)
 read_holds {K} state keeps old now g titled sound kept rest read reads = record {
   title = ap (λ (h : Held K). h.title) reads.journal ∙ titled;
@@ -40,9 +40,8 @@ read_holds {K} state keeps old now g titled sound kept rest read reads = record 
   limit = subst (λ (n : ℕ). n ≤ SIZE_LIMIT) (sym (ap (λ (h : Held K). h.size) reads.journal)) read.limit;
   none_kept = λ volatile. absurd (clash now.volatile volatile (ap (λ (h : Held K). h.volatile) reads.journal ∙ kept));
   ready = λ opened.
-      let told : IsTrue (state old.desk).tells = subst IsTrue reads.rests.on_disk.tells opened.told in
-      let lies = rest told in
-      subst (IsAtRest state now) (read.whole told lies.0 lies.1.lies ∙ read.is_replayed.bodies_are) (reads.stays told lies.0 lies.1);
+      let lies = rest (reads.rests.falls opened.told) in
+      subst (IsAtRest state now) (read.whole opened.told lies.0 lies.1.lies ∙ read.is_replayed.bodies_are) (reads.stays opened.told lies.0 lies.1);
 }
 
 -- the book of a detail whose history was gathered is sound
@@ -102,35 +101,29 @@ module _ {K : Type 0} (state : K → DeskState) (shelf : ShelfValue K) (number :
   rests_then : IsTrue (state old.desk).tells → IsAtRest state old (bodies_of shelf.elements)
   rests_then told = s.holds.ready (record { told = told; sound = s.holds.sound; kept = s.kept })
 
-  told_then : IsTrue (state (desk_of shelf)).tells → IsTrue (state old.desk).tells
-  told_then told = subst (λ (d : K). IsTrue (state d).tells) s.desk told
-
   -- so one that couldn't be read back failed for the disk or for want of memory
-  pub opening_fails : (fault : LoadFault) (desk : K) → FailsToReadBack state CannotFollow fault old desk → IsTrue (state (desk_of shelf)).tells
+  pub opening_fails : (fault : LoadFault) (desk : K) → FailsToReadBack state CannotFollow fault old desk → (IsTrue (state desk).tells → IsTrue (state old.desk).tells) → IsTrue (state desk).tells
       → (fault ≡ load_fault.Disk) ⊎ (fault ≡ load_fault.Memory)
-  opening_fails load_fault.Disk desk fails told = inl refl
-  opening_fails load_fault.Memory desk fails told = inr refl
-  opening_fails (load_fault.NotABook offset byte) desk fails told =
-      let now = told_then told in
-      let refused = fails.refused now (bodies_of shelf.elements) (rests_then now).lies in
+  opening_fails load_fault.Disk desk fails falls told = inl refl
+  opening_fails load_fault.Memory desk fails falls told = inr refl
+  opening_fails (load_fault.NotABook offset byte) desk fails falls told =
+      let refused = fails.refused told (bodies_of shelf.elements) (rests_then (falls told)).lies in
       absurd (never_refused shelf.elements refused.before refused.after refused.body s.legal refused.splits refused.cannot)
-  opening_fails load_fault.Old desk fails told = absurd (fails.new_format refl)
+  opening_fails load_fault.Old desk fails falls told = absurd (fails.new_format refl)
 
-  module _ (g : Gathering History) (read : HasReadAll state (HasGathered KeepsHistory) old g) where
+  module _ (now : Held K) (g : Gathering History) (reads : OnlyReads state old now) (read : HasReadAll state (HasGathered KeepsHistory) old now.desk g) where
     r : HasGathered KeepsHistory g read.bodies
     r = read.is_replayed
 
     -- just the bodies of the shelf were read again, and a book with these tells the same
-    pub same_bodies : IsTrue (state (desk_of shelf)).tells → bodies_of (elements_in g) ≡ bodies_of shelf.elements
-    same_bodies told =
-        let now = told_then told in
-        sym (read.whole now (bodies_of shelf.elements) (rests_then now).lies ∙ r.bodies_are)
+    pub same_bodies : IsTrue (state now.desk).tells → bodies_of (elements_in g) ≡ bodies_of shelf.elements
+    same_bodies told = sym (read.whole told (bodies_of shelf.elements) (rests_then (reads.rests.falls told)).lies ∙ r.bodies_are)
 
-    alike : IsTrue (state (desk_of shelf)).tells → AreAlike (elements_in g) shelf.elements
+    alike : IsTrue (state now.desk).tells → AreAlike (elements_in g) shelf.elements
     alike told = read_once (elements_in g) shelf.elements r.legal s.legal (same_bodies told)
 
     -- so the detail is there again
-    pub still_there : length g.details ≤ number → IsTrue (state (desk_of shelf)).tells → ⊥
+    pub still_there : length g.details ≤ number → IsTrue (state now.desk).tells → ⊥
     still_there missing told =
         omega (arith, s.within, missing, machines_many g.details (elements_in g) r.machines_are, as_many (elements_in g) shelf.elements (alike told))
 
@@ -140,11 +133,11 @@ module _ {K : Type 0} (state : K → DeskState) (shelf : ShelfValue K) (number :
       past_is = r.kept.entries ∙ ap (λ (n : ℕ). history n (elements_in g)) numbered
 
       -- and is the same
-      pub same_past : IsTrue (state (desk_of shelf)).tells → past_shown g.kept.entries.items ≡ history number shelf.elements
+      pub same_past : IsTrue (state now.desk).tells → past_shown g.kept.entries.items ≡ history number shelf.elements
       same_past told = past_is ∙ (alike told).histories number
 
       -- the book of a detail that was read again is sound
-      pub opened_sound : (now : Held K) (machine : MachineValue) → OnlyReads state old now → plan_of (elements_in g) number ≡ Some machine.plan
+      pub opened_sound : (machine : MachineValue) → plan_of (elements_in g) number ≡ Some machine.plan
           → StandsFor machine (history number (elements_in g)) → IsSoundBook state machine g.kept.bodies.items (record {
             plan = machine.plan;
             past = past_shown g.kept.entries.items;
@@ -155,7 +148,7 @@ module _ {K : Type 0} (state : K → DeskState) (shelf : ShelfValue K) (number :
             failed = None;
             limit = None;
           })
-      opened_sound now machine reads found stands = record {
+      opened_sound machine found stands = record {
         stands = subst (StandsFor machine) (sym past_is) stands;
         plan = refl;
         kept_is = r.kept.bodies ∙ ap framed_bodies (sym r.kept.entries);

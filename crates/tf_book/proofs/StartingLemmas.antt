@@ -2,13 +2,13 @@
 use Rattle.std.proofs.Common.{◌≡◌, ◌≢◌, ◌<◌, ◌≤◌, ℕ, Bool, false, List, [], ◌∷◌, ◌++◌, length, None, refl, sym, ap, ◌∙◌, subst, arith}
 use Rattle.std.specs.Prelude.{IsTrue, Result, Ok, Err, IfOk, IfErr, vec_len, vec_capacity}
 use Rattle.tf_desk.specs.Crash.{Pairs}
-use Rattle.tf_desk.specs.State.{DeskState, bytes_now, anything, GoesOn, Passes, passes_none}
+use Rattle.tf_desk.specs.State.{DeskState, bytes_now, anything, Trusts, GoesOn, Passes, passes_none}
 use Rattle.tf_desk.proofs.CountLemmas.{rises_later}
-use Rattle.tf_desk.proofs.StateLemmas.{goes_none}
+use Rattle.tf_desk.proofs.StateLemmas.{goes_none, trusts_of}
 use Rattle.tf_states.specs.declared.record.Entry.{Entry}
 use Rattle.tf_flow.specs.Plan.{PlanValue}
 use Rattle.tf_entries.specs.Plans.{IsPlan}
-use Rattle.tf_journal.specs.Format.{journal_bytes, Held, IsBody, IsAtRest}
+use Rattle.tf_journal.specs.Format.{journal_bytes, desk_after, Held, IsBody, IsAtRest}
 use Rattle.tf_journal.specs.declared.title.Title.TheVariants.{Book2 as book_title}
 use Rattle.tf_machine.specs.Machine.{MachineValue, StandsFor}
 use Rattle.tf_details.specs.Elements.{Element, details, bodies_of, IsAcceptedPlan, CanRun, IsHistoryOf, MayBegin, IsLegalBook, Contents, IsContents, past_of}
@@ -53,22 +53,29 @@ room_begun state g body journal room added = omega (arith, room, elements_long (
 
 module _ {K : Type 0} (state : K → DeskState) where
   -- where nothing was done
-  pub goes_nowhere : (old new : K) → new ≡ old → GoesOn anything (state old) (state new)
-  goes_nowhere old new same = subst (λ (d : K). GoesOn anything (state old) (state d)) (sym same) goes_none
+  pub goes_nowhere : (old new : K) → new ≡ old → Trusts (GoesOn anything) (state old) (state new)
+  goes_nowhere old new same = subst (λ (d : K). Trusts (GoesOn anything) (state old) (state d)) (sym same) (trusts_of refl goes_none)
 
   pub passes_nowhere : {during : Pairs} (old new : K) → new ≡ old → Passes during (state old) (state new)
   passes_nowhere {during} old new same = subst (λ (d : K). Passes during (state old) (state d)) (sym same) passes_none
 
   -- ---- a body that is added to an unborn file is its first one
 
+  -- what is told behind an addition was told before it
+  pub told_made : (made : Held K) (r : Result (Held K) (K × BookFault)) → (state (desk_after r)).tells ≡ (state made.desk).tells
+      → IfOk r (λ after. IsTrue (state after.desk).tells → IsTrue (state made.desk).tells)
+  told_made made (Ok after) same = λ told. subst IsTrue same told
+  told_made made (Err back) same = tt
+
   pub first_adds : (desk : K) (made after : Held K) (elements : List Element) (body : List ℕ) → elements ≡ [] → HoldsElements state made [] → made.volatile ≡ false
-      → (EndsThere state (place.Unborn desk) → length (bytes_now (state made.desk)) ≡ 18) → (state made.desk).tells ≡ (state desk).tells
+      → (EndsThere state (place.Unborn desk) → IsTrue (state made.desk).tells → length (bytes_now (state made.desk)) ≡ 18) → (IsTrue (state after.desk).tells → IsTrue (state made.desk).tells)
       → AddsTo state (place.Kept made) [] body after → AddsTo state (place.Unborn desk) elements body after
-  first_adds desk made after elements body none holds kept short tells adds = record {
+  first_adds desk made after elements body none holds kept short falls adds = record {
     has = subst (λ (l : List Element). HasAdded state l body after) (sym none) adds.has;
     volatile = adds.volatile ∙ kept;
-    exact = λ ends.
-        adds.exact (record { told = subst IsTrue (sym tells) ends.0; sound = holds.sound; kept = kept }, short ends ∙ sym holds.size)
+    exact = λ ends told.
+        let told_made = falls told in
+        adds.exact (record { told = told_made; sound = holds.sound; kept = kept }, short ends told_made ∙ sym holds.size) told
         ∙ ap (λ (l : List Element). journal_bytes book_title (bodies_of l ++ body ∷ [])) (sym none);
   }
 
@@ -84,13 +91,13 @@ module _ {K : Type 0} (state : K → DeskState) where
 
   -- by all that is known of both calls
   pub first_added : (at : Place K) (desk : K) (made : Held K) (body : List ℕ) (r : Result (Held K) (K × BookFault)) → at ≡ place.Unborn desk → HoldsElements state made [] → made.volatile ≡ false
-      → (EndsThere state (place.Unborn desk) → length (bytes_now (state made.desk)) ≡ 18) → (state made.desk).tells ≡ (state desk).tells
+      → (EndsThere state (place.Unborn desk) → IsTrue (state made.desk).tells → length (bytes_now (state made.desk)) ≡ 18) → IfOk r (λ after. IsTrue (state after.desk).tells → IsTrue (state made.desk).tells)
       → IfOk r (λ after. (elements : List Element) → HoldsElements state made elements → AddsTo state (place.Kept made) elements body after)
       → IfOk r (λ after. (elements : List Element) → IsPlaced state at elements → AddsTo state at elements body after)
-  first_added at desk made body (Err back) is holds kept short tells adds = tt
-  first_added at desk made body (Ok after) is holds kept short tells adds = λ elements placed.
+  first_added at desk made body (Err back) is holds kept short falls adds = tt
+  first_added at desk made body (Ok after) is holds kept short falls adds = λ elements placed.
       subst (λ (p : Place K). AddsTo state p elements body after) (sym is)
-      (first_adds desk made after elements body (subst (λ (p : Place K). IsPlaced state p elements) is placed).0 holds kept short tells (adds [] holds))
+      (first_adds desk made after elements body (subst (λ (p : Place K). IsPlaced state p elements) is placed).0 holds kept short falls (adds [] holds))
 
   pub first_failed : (at : Place K) (desk : K) (made : Held K) (body : List ℕ) (r : Result (Held K) (K × BookFault)) → at ≡ place.Unborn desk → HoldsElements state made []
       → (state desk).disk_faults ≤ (state made.desk).disk_faults → IsBody book_title body → IfErr r (λ back. back.1 ≢ fault.Memory)
@@ -131,9 +138,9 @@ module _ {K : Type 0} (state : K → DeskState) where
 
   -- in a file where nothing stood behind the elements each byte is told
   pub begun_exact : (shelf : ShelfValue K) (plan : PlanValue) (contents : Contents) (journal : Held K) → contents ≡ begun_contents shelf.elements plan
-      → AddsTo state shelf.place shelf.elements (detail_body plan) journal → EndsThere state shelf.place → IsExact (state journal.desk) contents
-  begun_exact shelf plan contents journal contents_are adds ends =
-      adds.exact ends ∙ ap (λ (c : Contents). journal_bytes book_title (bodies_with c [])) (sym contents_are)
+      → AddsTo state shelf.place shelf.elements (detail_body plan) journal → EndsThere state shelf.place → IsTrue (state journal.desk).tells → IsExact (state journal.desk) contents
+  begun_exact shelf plan contents journal contents_are adds ends told =
+      adds.exact ends told ∙ ap (λ (c : Contents). journal_bytes book_title (bodies_with c [])) (sym contents_are)
 
   -- why no book started
   pub start_fails : (shelf : ShelfValue K) (plan : PlanValue) (why : BookFault) (old new : K) → IsHistoryOf plan []

@@ -78,8 +78,8 @@ desk_after_load (Err back) = back.0
 pub record IsOpened {K : Type 0} (state : K → DeskState) (shelf : ShelfValue K) (number : ℕ)
     (book : BookValue K) : Type 0 where
   pub number_is : book.contents.number ≡ number
-  pub bodies : IsTrue (state (desk_of shelf)).tells → bodies_of book.contents.elements ≡ bodies_of shelf.elements
-  pub past : IsTrue (state (desk_of shelf)).tells → book.past ≡ history number shelf.elements
+  pub bodies : IsTrue (state book.journal.desk).tells → bodies_of book.contents.elements ≡ bodies_of shelf.elements
+  pub past : IsTrue (state book.journal.desk).tells → book.past ≡ history number shelf.elements
   pub volatile : book.journal.volatile ≡ false
   pub halt : book.halt ≡ None
   pub failed : book.failed ≡ None

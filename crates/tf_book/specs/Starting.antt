@@ -89,5 +89,5 @@ pub record AddsTo {K : Type 0} (state : K → DeskState) (at : Place K) (element
     (journal : Held K) : Type 0 where
   pub has : HasAdded state elements body journal
   pub volatile : journal.volatile ≡ is_volatile at
-  pub exact : EndsThere state at → bytes_now (state journal.desk)
+  pub exact : EndsThere state at → IsTrue (state journal.desk).tells → bytes_now (state journal.desk)
       ≡ journal_bytes book_title (bodies_of elements ++ body ∷ [])

@@ -49,14 +49,15 @@ abbrev pub desk_read : {K A F : Type 0} → Result (K × A) (K × F) → K
 desk_read (Ok found) = found.0
 desk_read (Err back) = back.0
 
--- all bodies of a journal were read: they are those of a plan and a history, and the bodies that these have in a book
+-- all bodies of a journal were read, up to this desk: they are those of a plan and a history, and the bodies that these have in a book
 -- of several flows are kept
-pub record HasReadAllOf {K : Type 0} (state : K → DeskState) (journal : Held K) (kept : List (List ℕ)) : Type 0 where
+pub record HasReadAllOf {K : Type 0} (state : K → DeskState) (journal : Held K) (desk : K)
+    (kept : List (List ℕ)) : Type 0 where
   pub plan : PlanValue
   pub past : List Entry
   pub kept_are : kept ≡ new_bodies plan past
   pub legal : IsLegalBook (carried plan past)
-  pub whole : IsTrue (state journal.desk).tells → (held : List (List ℕ)) → HasBodies state journal held
+  pub whole : IsTrue (state desk).tells → (held : List (List ℕ)) → HasBodies state journal held
       → held ≡ old_bodies plan past
 
 -- the bodies are those that a flow has in a book of several; where the desk tells, the file holds that flow

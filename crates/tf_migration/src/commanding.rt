@@ -1,6 +1,7 @@
 //! A whole migration.
 ghost use Rattle.std.specs.Prelude.{◌≡◌, ◌≢◌, ◌⊎◌, ℕ, List, IsTrue, IfOk};
 ghost use Rattle.tf_numbers.specs.Numbers.{Rises};
+ghost use Rattle.tf_desk.specs.State.{DeskState, told_as};
 ghost use Rattle.tf_journal.specs.Format.{unborn};
 ghost use Rattle.tf_migration.specs.Migrates.{Migrates, HasCauses, Concludes, IsBookOfFlow, IsComplete, old_at, new_at};
 ghost use Rattle.tf_migration.specs.Reading.{IsUnread, IsRead};
@@ -41,10 +42,10 @@ fn say_text<K: Desk>(desk: K, text: Result<Vec<u8>, Memory>, status: u8) -> (K, 
 
 /// Says why the old book gave no flow, unless memory ran out.
 fn refuse_old<K: Desk>(alloc: Global, desk: K, fault: OldFault) -> (K, u8)
-    ensures migrates { (old new : List ℕ) (entry : K) → IsUnread old fault (K.state entry) (K.state desk)
-        → Migrates old new (K.state entry) (K.state result.0) result.1 }
-    ensures causes { (old : List ℕ) (entry : K) → IsUnread old fault (K.state entry) (K.state desk)
-        → HasCauses (K.state entry) (K.state result.0) result.1 }
+    ensures migrates { (old new : List ℕ) (entry : DeskState) → IsUnread old fault entry (K.state desk)
+        → Migrates old new entry (K.state result.0) result.1 }
+    ensures causes { (old : List ℕ) (entry : DeskState) → IsUnread old fault entry (K.state desk)
+        → HasCauses entry (K.state result.0) result.1 }
 {
     match fault {
         OldFault::Disk => say(desk, DISK_FAULT, DISK_FAILED),
@@ -59,14 +60,14 @@ fn refuse_old<K: Desk>(alloc: Global, desk: K, fault: OldFault) -> (K, u8)
 
 /// Says why the new book wasn't made, unless memory ran out.
 fn refuse_new<K: Desk>(alloc: Global, desk: K, fault: NewFault) -> (K, u8)
-    ensures migrates { (old new : List ℕ) (kept : List (List ℕ)) (entry mid : K)
-        → IsRead old kept (K.state entry) (K.state mid)
-        → FailsToMake new kept fault (K.state mid) (K.state desk)
-        → Migrates old new (K.state entry) (K.state result.0) result.1 }
-    ensures causes { (old new : List ℕ) (kept : List (List ℕ)) (entry mid : K)
-        → IsRead old kept (K.state entry) (K.state mid)
-        → FailsToMake new kept fault (K.state mid) (K.state desk)
-        → HasCauses (K.state entry) (K.state result.0) result.1 }
+    ensures migrates { (old new : List ℕ) (kept : List (List ℕ)) (entry mid : DeskState)
+        → IsRead old kept entry mid
+        → FailsToMake new kept fault mid (K.state desk)
+        → Migrates old new entry (K.state result.0) result.1 }
+    ensures causes { (old new : List ℕ) (kept : List (List ℕ)) (entry mid : DeskState)
+        → IsRead old kept entry mid
+        → FailsToMake new kept fault mid (K.state desk)
+        → HasCauses entry (K.state result.0) result.1 }
 {
     match fault {
         NewFault::Disk => say(desk, DISK_FAULT, DISK_FAILED),
@@ -82,10 +83,11 @@ fn refuse_new<K: Desk>(alloc: Global, desk: K, fault: NewFault) -> (K, u8)
 /// Makes the new book of the bodies of a flow that was read, and says how many entries it has. The message is made
 /// first: where memory runs out for it, nothing was written.
 fn carry_over<K: Desk>(alloc: Global, desk: K, new: &Text, bodies: &[Body]) -> (K, u8)
-    ensures migrates { (old : List ℕ) (entry : K) → IsRead old bodies.now (K.state entry) (K.state desk)
-        → Migrates old new.now (K.state entry) (K.state result.0) result.1 }
-    ensures causes { (old : List ℕ) (entry : K) → IsRead old bodies.now (K.state entry) (K.state desk)
-        → HasCauses (K.state entry) (K.state result.0) result.1 }
+    ensures migrates { (old : List ℕ) (entry : DeskState) → IsRead old bodies.now entry (K.state desk)
+        → Migrates old new.now (told_as (K.state result.0) entry) (K.state result.0) result.1 }
+    ensures causes { (old : List ℕ) (entry : DeskState) → IsRead old bodies.now entry (K.state desk)
+        → HasCauses (told_as (K.state result.0) entry) (K.state result.0) result.1 }
+    ensures falls { IsTrue (K.state result.0).tells → IsTrue (K.state desk).tells }
 {
     let entries = bodies.len().saturating_sub(1) as u64;
     let Ok(text) = migrated_text(alloc, entries) else {
@@ -102,9 +104,11 @@ fn carry_over<K: Desk>(alloc: Global, desk: K, new: &Text, bodies: &[Body]) -> (
 /// where its file isn't unborn it stays too. Else it is drafted, filled and published: a crash since its first sync
 /// leaves it unborn, or with all that was carried over, and with status 0 so does every later crash.
 pub fn migrate_command<K: Desk>(alloc: Global, old: &Text, new: &Text, desk: K) -> (K, u8)
-    ensures migrates { Migrates old.now new.now (K.state desk) (K.state result.0) result.1 }
-    ensures causes { HasCauses (K.state desk) (K.state result.0) result.1 }
-    ensures complete { IsTrue (K.state desk).tells → IsBookOfFlow (old_at (K.state desk) old.now)
+    ensures migrates { Migrates old.now new.now (told_as (K.state result.0) (K.state desk)) (K.state result.0)
+        result.1 }
+    ensures causes { HasCauses (told_as (K.state result.0) (K.state desk)) (K.state result.0) result.1 }
+    ensures falls { IsTrue (K.state result.0).tells → IsTrue (K.state desk).tells }
+    ensures complete { IsTrue (K.state result.0).tells → IsBookOfFlow (old_at (K.state desk) old.now)
         → new_at (K.state desk) new.now ≡ unborn
         → ¬ (Rises (K.state desk).disk_faults (K.state result.0).disk_faults)
         → ¬ (Rises (K.state desk).out_faults (K.state result.0).out_faults)

@@ -1,7 +1,7 @@
 //! How the flow of the file of a name is read, to be carried over.
 ghost use Rattle.std.specs.Prelude.{◌≡◌, ◌≢◌, ℕ, List, false, IsTrue, IfOk, IfErr};
 ghost use Rattle.tf_numbers.specs.Numbers.{Rises};
-ghost use Rattle.tf_desk.specs.State.{bytes_now, Rests};
+ghost use Rattle.tf_desk.specs.State.{bytes_now, Trusts, Rests};
 ghost use Rattle.tf_journal.specs.Answers.{RefusesFile};
 ghost use Rattle.tf_journal.specs.Format.{HasSynced, IsSynced, Recovered, bodies as held_bodies};
 ghost use Rattle.tf_journal.specs.Reading.{HasBodies};
@@ -64,12 +64,12 @@ fn unloaded(fault: JournalFault) -> OldFault
 fn read<K: Desk>(alloc: Global, mut journal: Journal<K>) -> Result<(K, Vec<Body>), (K, OldFault)>
     requires in_file { journal.volatile ≡ false }
     requires title { journal.title ≡ old_title }
-    ensures flow { IfOk result (λ found. HasReadAllOf K.state journal found.1.items) }
-    ensures refused { IfErr result (λ back. IsTrue (K.state journal.desk).tells → (held : List (List ℕ))
+    ensures flow { IfOk result (λ found. HasReadAllOf K.state journal found.0 found.1.items) }
+    ensures refused { IfErr result (λ back. IsTrue (K.state back.0).tells → (held : List (List ℕ))
         → HasBodies K.state journal held → RefusesOld back.1 (held_bodies held)) }
     ensures cause { IfErr result (λ back. back.1 ≡ OldFault.Disk
         → Rises (K.state journal.desk).disk_faults (K.state back.0).disk_faults) }
-    ensures rests { Rests (K.state journal.desk) (K.state (desk_read result)) }
+    ensures rests { Trusts Rests (K.state journal.desk) (K.state (desk_read result)) }
 {
     let mut book = OldBook::Empty;
     match read_back(alloc, &mut journal, &mut book) {
@@ -89,15 +89,16 @@ fn read<K: Desk>(alloc: Global, mut journal: Journal<K>) -> Result<(K, Vec<Body>
 
 /// Reads the flow of the picked file.
 fn load<K: Desk>(alloc: Global, desk: K) -> Result<(K, Vec<Body>), (K, OldFault)>
-    ensures flow { IfOk result (λ found. HasFlow (IsTrue (K.state desk).tells)
+    ensures flow { IfOk result (λ found. HasFlow (IsTrue (K.state found.0).tells)
         (old_in (bytes_now (K.state desk))) found.1.items) }
-    ensures refused { IfErr result (λ back. IsTrue (K.state desk).tells
+    ensures refused { IfErr result (λ back. IsTrue (K.state back.0).tells
         → RefusesOld back.1 (old_in (bytes_now (K.state desk)))) }
     ensures cause { IfErr result (λ back. back.1 ≡ OldFault.Disk
         → Rises (K.state desk).disk_faults (K.state back.0).disk_faults) }
-    ensures rests { Rests (K.state desk) (K.state (desk_read result)) }
-    ensures synced { IsTrue (K.state desk).tells → IsSynced (K.state desk) (K.state (desk_read result)) }
-    ensures at_sync { IfOk result (λ found. IsTrue (K.state desk).tells
+    ensures rests { Trusts Rests (K.state desk) (K.state (desk_read result)) }
+    ensures synced { IsTrue (K.state (desk_read result)).tells
+        → IsSynced (K.state desk) (K.state (desk_read result)) }
+    ensures at_sync { IfOk result (λ found. IsTrue (K.state found.0).tells
         → HasSynced (K.state desk) (K.state found.0)) }
 {
     match Journal::load(alloc, desk, Title::Book) {
@@ -115,8 +116,8 @@ pub fn read_flow<K: Desk>(
     mut desk: K,
     name: &Text,
 ) -> Result<(K, Vec<Body>), (K, OldFault)>
-    ensures read { IfOk result (λ found. IsRead name.now found.1.items (K.state desk) (K.state found.0)) }
-    ensures unread { IfErr result (λ back. IsUnread name.now back.1 (K.state desk) (K.state back.0)) }
+    ensures read { IfOk result (λ found. Trusts (IsRead name.now found.1.items) (K.state desk) (K.state found.0)) }
+    ensures unread { IfErr result (λ back. Trusts (IsUnread name.now back.1) (K.state desk) (K.state back.0)) }
 {
     match desk.pick(alloc, name) {
         Ok(()) => load(alloc, desk),

@@ -1,6 +1,6 @@
 //! How a book of several flows is made of bodies, whole or not at all.
 ghost use Rattle.std.specs.Prelude.{◌≡◌, ℕ, List, [], true, IsTrue, IfErr, OnOk};
-ghost use Rattle.tf_desk.specs.State.{bytes_now, GoesOn};
+ghost use Rattle.tf_desk.specs.State.{DeskState, bytes_now, told_as, Trusts, GoesOn};
 ghost use Rattle.tf_journal.specs.Format.{is_unborn, LeavesUnborn, StaysUnborn};
 ghost use Rattle.tf_journal.specs.declared.title.Title.TheVariants.{Book2 as new_title};
 ghost use Rattle.tf_migration.specs.Writing.{LeavesOnce, IsLeftSo, IsDraftOf, FailsToAdd, left_added, desk_written, left_written, unmade_by, FailsToWrite, Makes, IsPicked};
@@ -66,9 +66,9 @@ fn unmade(fault: AppendFault) -> NewFault
 fn write<K: Desk>(alloc: Global, desk: K, bodies: &[Body]) -> Result<K, (K, NewFault)>
     requires unborn { IsTrue (K.state desk).tells → is_unborn new_title (bytes_now (K.state desk)) ≡ true }
     requires stays { IsTrue (K.state desk).tells → StaysUnborn new_title (K.state desk) }
-    ensures goes { GoesOn (LeavesOnce (left_written result) bodies.now (K.state desk).shown)
+    ensures goes { Trusts (GoesOn (LeavesOnce (left_written result) bodies.now (K.state desk).shown))
         (K.state desk) (K.state (desk_written result)) }
-    ensures left { IsTrue (K.state desk).tells
+    ensures left { IsTrue (K.state (desk_written result)).tells
         → IsLeftSo (left_written result) bodies.now (K.state (desk_written result)) }
     ensures fails { IfErr result (λ back. FailsToWrite bodies.now back.1 (K.state desk) (K.state back.0)) }
     ensures untouched { IfErr result (λ back. back.1 ≡ NewFault.Memory → back.0 ≡ desk) }
@@ -86,8 +86,9 @@ fn write<K: Desk>(alloc: Global, desk: K, bodies: &[Body]) -> Result<K, (K, NewF
 
 /// Makes a book with these bodies in the picked file, if it is unborn.
 fn create<K: Desk>(alloc: Global, desk: K, bodies: &[Body]) -> Result<K, (K, NewFault)>
-    ensures { (name : List ℕ) (entry : K) → IsPicked name (K.state entry) (K.state desk)
-        → Makes K.state name bodies.now (K.state entry) result }
+    ensures makes { (name : List ℕ) (entry : DeskState) → IsPicked name entry (K.state desk)
+        → Makes K.state name bodies.now (told_as (K.state (desk_written result)) entry) result }
+    ensures falls { IsTrue (K.state (desk_written result)).tells → IsTrue (K.state desk).tells }
 {
     match Journal::load(alloc, desk, Title::Book2) {
         Ok(journal) => Err((journal.into_desk(), NewFault::Exists)),
@@ -110,7 +111,8 @@ pub fn make_book<K: Desk>(
     name: &Text,
     bodies: &[Body],
 ) -> Result<K, (K, NewFault)>
-    ensures { Makes K.state name.now bodies.now (K.state desk) result }
+    ensures makes { Makes K.state name.now bodies.now (told_as (K.state (desk_written result)) (K.state desk)) result }
+    ensures falls { IsTrue (K.state (desk_written result)).tells → IsTrue (K.state desk).tells }
 {
     match desk.pick(alloc, name) {
         Ok(()) => create(alloc, desk, bodies),

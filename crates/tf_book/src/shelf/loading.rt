@@ -1,6 +1,6 @@
 ghost use Rattle.std.specs.Prelude.{◌≡◌, ◌≢◌, ℕ, List, [], true, false, IsTrue, IfOk, IfErr};
 ghost use Rattle.tf_numbers.specs.Numbers.{Rises};
-ghost use Rattle.tf_desk.specs.State.{bytes_now, Rests};
+ghost use Rattle.tf_desk.specs.State.{bytes_now, Trusts, Rests};
 ghost use Rattle.tf_details.specs.Elements.{Element, CannotFollow};
 ghost use Rattle.tf_details.specs.Reading.{AreMachinesOf};
 ghost use Rattle.tf_journal.specs.Format.{recovered, is_unborn, IsAtRest, HasSynced, IsSynced};
@@ -8,7 +8,7 @@ ghost use Rattle.tf_journal.specs.declared.title.Title.TheVariants.{Book2 as boo
 ghost use Rattle.tf_records.specs.Replaying.{FailsToReadBack};
 ghost use Rattle.tf_book.specs.Book.{RefusesBook, listed};
 ghost use Rattle.tf_book.specs.declared.shelf.Place.TheVariants as place;
-ghost use Rattle.tf_book.specs.Shelf.{desk_after_load, is_volatile, IsFoundAs, IsReadFrom};
+ghost use Rattle.tf_book.specs.Shelf.{desk_of, desk_after_load, is_volatile, IsFoundAs, IsReadFrom};
 
 use super::{Detail, Place, Shelf, begin_gathering};
 use std::alloc::Global;
@@ -60,10 +60,10 @@ impl<K: Desk> Shelf<K> {
         requires told { IsTrue (K.state journal.desk).tells → (held : List (List ℕ))
             × IsAtRest K.state journal held }
         ensures kept { IfOk result (λ shelf. is_volatile shelf.place ≡ false) }
-        ensures loads { IfOk result (λ shelf. IsTrue (K.state journal.desk).tells → (held : List (List ℕ))
+        ensures loads { IfOk result (λ shelf. IsTrue (K.state (desk_of shelf)).tells → (held : List (List ℕ))
             → IsAtRest K.state journal held → IsReadFrom shelf held) }
         ensures fails { IfErr result (λ back. FailsToReadBack K.state CannotFollow back.1 journal back.0) }
-        ensures rests { Rests (K.state journal.desk) (K.state (desk_after_load result)) }
+        ensures rests { Trusts Rests (K.state journal.desk) (K.state (desk_after_load result)) }
     {
         let Ok(mut read) = begin_gathering(alloc, 0) else {
             return Err((journal.into_desk(), LoadFault::Memory));
@@ -90,15 +90,16 @@ impl<K: Desk> Shelf<K> {
     #[tactic(auto, using(tf_journal::proofs::CrashLemmas::synced_on))]
     pub fn load(alloc: Global, desk: K) -> Result<Shelf<K>, (K, LoadFault)>
         ensures kept { IfOk result (λ shelf. is_volatile shelf.place ≡ false) }
-        ensures loads { IfOk result (λ shelf. IsTrue (K.state desk).tells
+        ensures loads { IfOk result (λ shelf. IsTrue (K.state (desk_of shelf)).tells
             → IsFoundAs shelf.place shelf.elements (recovered book_title (bytes_now (K.state desk)))) }
-        ensures refused { IfErr result (λ back. IsTrue (K.state desk).tells
+        ensures refused { IfErr result (λ back. IsTrue (K.state back.0).tells
             → RefusesBook back.1 (recovered book_title (bytes_now (K.state desk)))) }
         ensures cause { IfErr result (λ back. back.1 ≡ LoadFault.Disk
             → Rises (K.state desk).disk_faults (K.state back.0).disk_faults) }
-        ensures rests { Rests (K.state desk) (K.state (desk_after_load result)) }
-        ensures synced { IsTrue (K.state desk).tells → IsSynced (K.state desk) (K.state (desk_after_load result)) }
-        ensures at_sync { IsTrue (K.state desk).tells → IfErr result (λ back. back.1 ≢ LoadFault.Disk)
+        ensures rests { Trusts Rests (K.state desk) (K.state (desk_after_load result)) }
+        ensures synced { IsTrue (K.state (desk_after_load result)).tells
+            → IsSynced (K.state desk) (K.state (desk_after_load result)) }
+        ensures at_sync { IsTrue (K.state (desk_after_load result)).tells → IfErr result (λ back. back.1 ≢ LoadFault.Disk)
             → HasSynced (K.state desk) (K.state (desk_after_load result)) }
     {
         match Journal::load(alloc, desk, Title::Book2) {

@@ -1,6 +1,6 @@
 ghost use Rattle.std.specs.Prelude.{◌≡◌, ◌≢◌, ◌<◌, ◌≤◌, ◌⊎◌, length, false, vec_capacity, IsTrue, IfOk, IfErr};
 ghost use Rattle.tf_numbers.specs.Numbers.{Rises};
-ghost use Rattle.tf_desk.specs.State.{Rests};
+ghost use Rattle.tf_desk.specs.State.{Trusts, Rests};
 ghost use Rattle.tf_details.specs.Elements.{details, history, CannotFollow, IsLegalBook};
 ghost use Rattle.tf_details.specs.Reading.{elements_in, AreMachinesOf, HasGathered};
 ghost use Rattle.tf_journal.specs.Reading.{OnlyReads};
@@ -27,7 +27,8 @@ fn gather<K: Desk>(
     number: u16,
 ) -> Result<Gathering<History>, LoadFault>
     requires in_file { journal.old.volatile ≡ false }
-    ensures read { IfOk result (λ gathering. HasReadAll K.state (HasGathered KeepsHistory) journal.old gathering) }
+    ensures read { IfOk result (λ gathering. HasReadAll K.state (HasGathered KeepsHistory)
+        journal.old journal.new.desk gathering) }
     ensures number { IfOk result (λ gathering. gathering.number ≡ number) }
     ensures fails { IfErr result (λ fault. FailsToReadBack K.state CannotFollow
         fault journal.old journal.new.desk) }
@@ -94,11 +95,11 @@ impl<K: Desk> Shelf<K> {
     pub fn open(self, number: u16) -> Result<Book<K>, (K, LoadFault)>
         requires { number < length (details self.elements) }
         ensures opened { IfOk result (IsOpened K.state self number) }
-        ensures rests { Rests (K.state (desk_of self)) (K.state (desk_after_open result)) }
+        ensures rests { Trusts Rests (K.state (desk_of self)) (K.state (desk_after_open result)) }
         ensures cause { IfErr result (λ back. back.1 ≡ LoadFault.Disk
             → Rises (K.state (desk_of self)).disk_faults (K.state back.0).disk_faults) }
         ensures new_format { IfErr result (λ back. back.1 ≢ LoadFault.Old) }
-        ensures book { IsTrue (K.state (desk_of self)).tells
+        ensures book { IsTrue (K.state (desk_after_open result)).tells
             → IfErr result (λ back. (back.1 ≡ LoadFault.Disk) ⊎ (back.1 ≡ LoadFault.Memory)) }
     {
         let Shelf {

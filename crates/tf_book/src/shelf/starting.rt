@@ -1,5 +1,5 @@
 ghost use Rattle.std.specs.Prelude.{◌≡◌, ◌≢◌, ◌⊎◌, [], List, length, true, false, IfOk, IfErr, IsTrue};
-ghost use Rattle.tf_desk.specs.State.{bytes_now, anything, Passes, GoesOn};
+ghost use Rattle.tf_desk.specs.State.{bytes_now, anything, Trusts, Passes, GoesOn};
 ghost use Rattle.tf_details.specs.Elements.{Element};
 ghost use Rattle.tf_entries.specs.Plans.{IsPlan};
 ghost use Rattle.tf_journal.specs.Format.{desk_after, IsOpen, IsBody, LeavesBirth, is_unborn};
@@ -68,8 +68,8 @@ fn create<K: Desk>(alloc: Global, desk: K) -> Result<Journal<K>, (K, BookFault)>
     ensures made { IfOk result (λ journal. HoldsElements K.state journal []) }
     ensures kept { IfOk result (λ journal. journal.volatile ≡ false) }
     ensures exact { IfOk result (λ journal. EndsThere K.state (place.Unborn desk)
-        → length (bytes_now (K.state journal.desk)) ≡ 18) }
-    ensures goes { GoesOn (LeavesBirth book_title (K.state desk).shown)
+        → IsTrue (K.state journal.desk).tells → length (bytes_now (K.state journal.desk)) ≡ 18) }
+    ensures goes { Trusts (GoesOn (LeavesBirth book_title (K.state desk).shown))
         (K.state desk) (K.state (desk_after result)) }
     ensures fails { IfErr result (λ back. FailsToAdd K.state [] [] back.1 desk back.0) }
     ensures not_full { IfErr result (λ back. (back.1 ≡ BookFault.Disk) ⊎ (back.1 ≡ BookFault.Memory)) }
@@ -88,9 +88,10 @@ fn add<K: Desk>(alloc: Global, place: Place<K>, body: &[u8]) -> Result<Journal<K
     ensures adds { IfOk result (λ after. (elements : List Element) → IsPlaced K.state place elements
         → AddsTo K.state place elements body.now after) }
     ensures crash { (elements : List Element) → IsPlaced K.state place elements → IsTold K.state place
+        → IsTrue (K.state (desk_after result)).tells
         → Passes (LeavesAdded place elements body.now (K.state (desk_at place)).shown)
         (K.state (desk_at place)) (K.state (desk_after result)) }
-    ensures goes { GoesOn anything (K.state (desk_at place)) (K.state (desk_after result)) }
+    ensures goes { Trusts (GoesOn anything) (K.state (desk_at place)) (K.state (desk_after result)) }
     ensures fails { IfErr result (λ back. (elements : List Element) → IsPlaced K.state place elements
         → FailsToAdd K.state elements body.now back.1 (desk_at place) back.0) }
     ensures volatile { is_volatile place ≡ true → desk_after result ≡ desk_at place }
@@ -114,11 +115,11 @@ impl<K: Desk> Shelf<K> {
         requires fresh { StandsFor machine [] }
         ensures begun { IfOk result (IsBegun self machine.plan quiet) }
         ensures exact { IfOk result (λ book. EndsThere K.state self.place
-            → IsExact (K.state book.journal.desk) book.contents) }
-        ensures crash { IsTold K.state self.place
+            → IsTrue (K.state book.journal.desk).tells → IsExact (K.state book.journal.desk) book.contents) }
+        ensures crash { IsTold K.state self.place → IsTrue (K.state (desk_started result)).tells
             → Passes (LeavesBegun self machine.plan (K.state (desk_of self)).shown)
             (K.state (desk_of self)) (K.state (desk_started result)) }
-        ensures goes { GoesOn anything (K.state (desk_of self)) (K.state (desk_started result)) }
+        ensures goes { Trusts (GoesOn anything) (K.state (desk_of self)) (K.state (desk_started result)) }
         ensures fails { IfErr result (λ back. FailsToStart K.state self machine.plan back.1 (desk_of self) back.0) }
         ensures volatile { is_volatile self.place ≡ true → desk_started result ≡ desk_of self }
     {

@@ -1,3 +1,4 @@
+use Rattle.std.specs.Prelude.{IsTrue}
 use Rattle.std.proofs.Common.{◌≡◌, List, ℕ, ap, ◌∙◌, sym, subst, true}
 use Rattle.tf_desk.specs.State.{Passes}
 use Rattle.tf_entries.specs.Plans.{IsPlan}
@@ -13,7 +14,7 @@ pub returns-in_default-clause-goes : goal.returns-in_default-clause-goes
 returns-in_default-clause-goes g c = goes_nowhere g.K.Desk.state _ _ (c.into_desk.ensures ∙ ap (λ (s : ShelfValue _). desk_of s) c.self.view_is)
 
 pub returns-in_default-make-clause-crash : goal.returns-in_default-make-clause-crash
-returns-in_default-make-clause-crash g c = λ told. passes_nowhere g.K.Desk.state _ _ (c.into_desk-in_default-make.ensures ∙ ap (λ (s : ShelfValue _). desk_of s) c.self.view_is)
+returns-in_default-make-clause-crash g c = λ told still. passes_nowhere g.K.Desk.state _ _ (c.into_desk-in_default-make.ensures ∙ ap (λ (s : ShelfValue _). desk_of s) c.self.view_is)
 
 pub returns-in_default-make-clause-goes : goal.returns-in_default-make-clause-goes
 returns-in_default-make-clause-goes g c = goes_nowhere g.K.Desk.state _ _ (c.into_desk-in_default-make.ensures ∙ ap (λ (s : ShelfValue _). desk_of s) c.self.view_is)
@@ -45,9 +46,9 @@ returns-clause-crash g c =
     let at = c.self.inside.place in
     let elements = elements_in c.self.inside.read in
     let body : c.deref.result.now ≡ detail_body plan = c.deref.ensures.value ∙ c.in-Ok.ensures.body ∙ ap detail_body c.plan-plan.ensures.is in
-    subst (λ (s : ShelfValue _). IsTold D.state s.place → Passes (LeavesBegun s plan (D.state (desk_of s)).shown) (D.state (desk_of s)) (D.state c.in-Err.back.0)) c.self.view_is
-    (λ told. subst (λ (b : List ℕ). Passes (LeavesAdded at elements b (D.state (desk_at at)).shown) (D.state (desk_at at)) (D.state c.in-Err.back.0)) body
-    (c.in-Err.ensures.crash elements c.self.invariant.0 told))
+    subst (λ (s : ShelfValue _). IsTold D.state s.place → IsTrue (D.state c.in-Err.back.0).tells → Passes (LeavesBegun s plan (D.state (desk_of s)).shown) (D.state (desk_of s)) (D.state c.in-Err.back.0)) c.self.view_is
+    (λ told still. subst (λ (b : List ℕ). Passes (LeavesAdded at elements b (D.state (desk_at at)).shown) (D.state (desk_at at)) (D.state c.in-Err.back.0)) body
+    (c.in-Err.ensures.crash elements c.self.invariant.0 told still))
 
 pub returns-clause-fails : goal.returns-clause-fails
 returns-clause-fails g c =
