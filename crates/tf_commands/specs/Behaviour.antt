@@ -1,6 +1,6 @@
 -- The ways that a command can go.
 use Rattle.std.specs.Prelude.{◌≡◌, ◌≢◌, ◌≤◌, ◌⊎◌, ℕ, List, [], ◌++◌, length, codes, true, false, IsTrue, Bool, Option, Some, None}
-use Rattle.tf_desk.specs.State.{DeskState}
+use Rattle.tf_desk.specs.State.{DeskState, told_as}
 use Rattle.tf_flow.specs.declared.atoms.Bind.{Bind}
 use Rattle.tf_ports.specs.Ports.{GivenBack, Contents, GivesBytes, PassesLimit, DoorTold, CrewTold}
 use Rattle.tf_ports.specs.declared.crews.Want.{Want}
@@ -142,6 +142,10 @@ abbrev pub IsUntouched : CrewTold → CrewTold → DeskState → DeskState → T
 IsUntouched crew crew_after entry now = (crew_after ≡ crew) × NoFileChanges entry now
 
 module _ {K : Type 0} (state : K → DeskState) where
+  -- the desk before a call, telling what it tells after it: an answer of the system may show that it isn't so
+  abbrev before : K → K → DeskState
+  before entry now = told_as (state now) (state entry)
+
   -- what becomes of what the words ask for, where a run may be suspended for a stop that was asked for; a trial changes
   -- no file and meets no fault of the disk, and a check and an audit change none
   abbrev pub Obeys : (Want → Order → Outcome → Type 0) → Type 0 → Asked → Contents → PortsTold → PortsTold → K → K → ℕ
@@ -159,20 +163,20 @@ module _ {K : Type 0} (state : K → DeskState) where
       (Audits files log (state entry).shown (state now).shown) (state entry).shown (state now).shown status
       × IsUntouched ports.crew later.crew (state entry) (state now)
   Obeys gives stopped (asked.Run file book sets defer hands stop target) files ports later entry now status =
-      FileRead files (source_so file sets defer target) (IsUntouched ports.crew later.crew (state entry) (state now))
-      (Runs (gives hands) (spoken_run hands stop) stopped book ports.crew later.crew (state entry) (state now))
-      (state entry).shown (state now).shown status
+      FileRead files (source_so file sets defer target) (IsUntouched ports.crew later.crew (before entry now) (state now))
+      (Runs (gives hands) (spoken_run hands stop) stopped book ports.crew later.crew (before entry now) (state now))
+      (before entry now).shown (state now).shown status
   Obeys gives stopped (asked.Resume book name hands stop) files ports later entry now status =
-      Resumes (gives hands) (spoken_run hands stop) stopped book name ports.crew later.crew (state entry)
+      Resumes (gives hands) (spoken_run hands stop) stopped book name ports.crew later.crew (before entry now)
       (state now) status
   Obeys gives stopped (asked.Show book name) files ports later entry now status =
-      ShowsBook book name (state entry) (state now) status × (later ≡ ports)
+      ShowsBook book name (before entry now) (state now) status × (later ≡ ports)
   Obeys gives stopped (asked.Reset book name) files ports later entry now status =
-      ResetsBook book name (state entry) (state now) status × (later ≡ ports)
+      ResetsBook book name (before entry now) (state now) status × (later ≡ ports)
   Obeys gives stopped (asked.Details book) files ports later entry now status =
-      ListsDetails book (state entry) (state now) status × (later ≡ ports)
+      ListsDetails book (before entry now) (state now) status × (later ≡ ports)
   Obeys gives stopped (asked.Migrate old new) files ports later entry now status =
-      Migrates old new (state entry) (state now) status × (later ≡ ports)
+      Migrates old new (before entry now) (state now) status × (later ≡ ports)
   Obeys gives stopped (asked.Demo seed size book hands) files ports later entry now status =
       Demonstrates state (gives (want.Local hands))
       (want.Local hands) stopped book ports.crew later.crew entry now seed size status
@@ -181,12 +185,12 @@ module _ {K : Type 0} (state : K → DeskState) where
       (state now).shown address sessions status
       × NoFileChanges (state entry) (state now)
   Obeys gives stopped (asked.Board board request) files ports later entry now status =
-      Does request board (state entry) (state now) status × (later ≡ ports)
+      Does request board (before entry now) (state now) status × (later ≡ ports)
   Obeys gives stopped (asked.Conduct board owner hands) files ports later entry now status =
-      Conducts (gives (want.Local hands)) files ports.crew later.crew board owner hands (state entry) (state now) status
+      Conducts (gives (want.Local hands)) files ports.crew later.crew board owner hands (before entry now) (state now) status
       × (later.door ≡ ports.door)
   Obeys gives stopped (asked.Serve board address sessions) files ports later entry now status =
-      ServesBoard board address sessions ports.door later.door (state entry) (state now) status
+      ServesBoard board address sessions ports.door later.door (before entry now) (state now) status
       × (later.crew ≡ ports.crew)
 
   -- the way that a command went, with hands that keep the relation of orders and outcomes of those that are wanted, and

@@ -3,7 +3,7 @@
 use Rattle.std.specs.Prelude.{◌≡◌, ◌≢◌, ◌⊎◌, ℕ, ◌≤◌, ◌+◌, Bool, IsTrue, List, [], ◌++◌, length, Option, Some, ◌<◌, ◌∷◌, not, is_none, None, true, false, if◌then◌else◌, slice_index_or}
 use Rattle.tf_numbers.specs.Numbers.{Rises}
 use Rattle.tf_desk.specs.Crash.{shown_with, ShowsPrefix}
-use Rattle.tf_desk.specs.State.{DeskState}
+use Rattle.tf_desk.specs.State.{DeskState, told_as}
 use Rattle.tf_flow.specs.Plan.{PlanValue, PlanTree, plan_tree}
 use Rattle.tf_states.specs.declared.record.Entry.{Entry}
 use Rattle.tf_journal.specs.Start.{file_of, IsStart}
@@ -487,7 +487,7 @@ pub data Demonstrates {K : Type 0} (state : K → DeskState) (gives : Order → 
     (crew crew_after : CrewTold) (entry now : K) (seed size status : ℕ) : Type 0 where
   ungenerated : status ≡ OUT_OF_MEMORY → crew_after ≡ crew → now ≡ entry
       → Demonstrates state gives hands asked name crew crew_after entry now seed size status
-  demonstrated : Runs gives (unspoken hands) asked name crew crew_after (state entry) (state now)
+  demonstrated : Runs gives (unspoken hands) asked name crew crew_after (told_as (state now) (state entry)) (state now)
       (demo_tree seed size) status
       → Demonstrates state gives hands asked name crew crew_after entry now seed size status
 

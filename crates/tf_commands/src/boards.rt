@@ -1,5 +1,6 @@
 //! How a command on a board is done.
-ghost use Rattle.std.specs.Prelude.{◌≤◌};
+ghost use Rattle.std.specs.Prelude.{◌≤◌, IsTrue};
+ghost use Rattle.tf_desk.specs.State.{told_as};
 ghost use Rattle.tf_board.specs.Does.{Does};
 ghost use Rattle.tf_commands.specs.Asking.{HasEachCause, counts_of};
 
@@ -11,7 +12,9 @@ use tf_values::Text;
 
 /// Does what is asked of a board.
 pub fn on_board<K: Desk>(alloc: Global, board: &Text, request: BoardRequest, desk: K) -> Over<K>
-    ensures does { Does request board.now (K.state desk) (K.state result.desk) result.status }
+    ensures does { Does request board.now (told_as (K.state result.desk) (K.state desk))
+        (K.state result.desk) result.status }
+    ensures falls { IsTrue (K.state result.desk).tells → IsTrue (K.state desk).tells }
     ensures causes { HasEachCause result.status (counts_of (K.state desk) 0 0)
         (counts_of (K.state result.desk) 0 0) }
     ensures asks { (K.state desk).asks ≤ (K.state result.desk).asks }

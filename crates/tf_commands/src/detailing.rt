@@ -1,6 +1,7 @@
 //! How the details of a book are listed.
 
-ghost use Rattle.std.specs.Prelude.{◌≤◌, ℕ, List};
+ghost use Rattle.std.specs.Prelude.{◌≡◌, ◌≤◌, ℕ, List, IsTrue};
+ghost use Rattle.tf_desk.specs.State.{DeskState, told_as};
 ghost use Rattle.tf_book.specs.Shelf.{desk_of};
 ghost use Rattle.tf_commands.specs.Asking.{HasEachCause, counts_of};
 ghost use Rattle.tf_commands.specs.Begun.{IsShelfOf};
@@ -17,7 +18,9 @@ use tf_values::Text;
 
 /// Opens the book, and says a line of each of its details. Nothing is recorded.
 pub fn list_details<K: Desk>(alloc: Global, name: &Text, desk: K) -> Over<K>
-    ensures lists { ListsDetails name.now (K.state desk) (K.state result.desk) result.status }
+    ensures lists { ListsDetails name.now (told_as (K.state result.desk) (K.state desk)) (K.state result.desk)
+        result.status }
+    ensures falls { IsTrue (K.state result.desk).tells → IsTrue (K.state desk).tells }
     ensures causes { HasEachCause result.status (counts_of (K.state desk) 0 0)
         (counts_of (K.state result.desk) 0 0) }
     ensures asks { (K.state desk).asks ≤ (K.state result.desk).asks }
@@ -30,11 +33,12 @@ pub fn list_details<K: Desk>(alloc: Global, name: &Text, desk: K) -> Over<K>
 
 /// Says the lines of a book's details, unless memory runs out.
 fn say_details<K: Desk>(alloc: Global, shelf: Shelf<K>) -> Over<K>
-    ensures lists { (name : List ℕ) (entry : K)
-        → IsShelfOf K.state name (K.state entry) shelf
-        → ListsDetails name (K.state entry) (K.state result.desk) result.status }
+    ensures lists { (name : List ℕ) (entry : DeskState)
+        → IsShelfOf K.state name entry shelf
+        → ListsDetails name entry (K.state result.desk) result.status }
     ensures causes { HasEachCause result.status
         (counts_of (K.state (desk_of shelf)) 0 0) (counts_of (K.state result.desk) 0 0) }
+    ensures tells { (K.state result.desk).tells ≡ (K.state (desk_of shelf)).tells }
     ensures asks { (K.state (desk_of shelf)).asks ≤ (K.state result.desk).asks }
 {
     let mut text = Vec::new(alloc);

@@ -1,6 +1,7 @@
 //! A run that is recorded in a book: it begins as a new detail.
 
-ghost use Rattle.std.specs.Prelude.{◌≡◌, ◌≤◌, ◌⊎◌, ℕ, List, [], map, Some, false, vec_len};
+ghost use Rattle.std.specs.Prelude.{◌≡◌, ◌≤◌, ◌⊎◌, ℕ, List, [], map, Some, false, vec_len, IsTrue};
+ghost use Rattle.tf_desk.specs.State.{DeskState, told_as};
 ghost use Rattle.std.specs.List.{AllByRecursion};
 ghost use Rattle.tf_flow.specs.Plan.{plan_tree};
 ghost use Rattle.tf_ports.specs.Ports.{gives_by, IsFresh, wanted as number_of};
@@ -44,11 +45,12 @@ pub fn run_file<K: Desk + Send, S: Sources, W: Crew, R: Threads + Wait + Sync>(
 ) -> Over<K>
     requires few { AreHands request.now.want }
     ensures runs { FileRead (S.contents sources.new) source
-        (IsUntouched (W.told crew.old) (W.told crew.new) (K.state desk) (K.state result.desk))
+        (IsUntouched (W.told crew.old) (W.told crew.new) (told_as (K.state result.desk) (K.state desk)) (K.state result.desk))
         (Runs (gives_by W.Hand.gives W.Far.gives request.now.want) request.now
         (WasAsked (K.state desk) (K.state result.desk)) name.now
-        (W.told crew.old) (W.told crew.new) (K.state desk) (K.state result.desk))
+        (W.told crew.old) (W.told crew.new) (told_as (K.state result.desk) (K.state desk)) (K.state result.desk))
         (K.state desk).shown (K.state result.desk).shown result.status }
+    ensures falls { IsTrue (K.state result.desk).tells → IsTrue (K.state desk).tells }
     ensures hires { HiresAtMost request.now.want (W.told crew.old) (W.told crew.new) }
     ensures asks { (K.state desk).asks ≤ (K.state result.desk).asks }
     ensures causes { HasEachCause result.status (counts_of (K.state desk) (S.faults sources.old) (W.faults crew.old))
@@ -74,8 +76,9 @@ pub fn run_plan<K: Desk + Send, W: Crew, R: Threads + Wait + Sync>(
     requires few { AreHands request.now.want }
     ensures runs { Runs (gives_by W.Hand.gives W.Far.gives request.now.want) request.now
         (WasAsked (K.state desk) (K.state result.desk)) name.now
-        (W.told crew.old) (W.told crew.new) (K.state desk) (K.state result.desk)
+        (W.told crew.old) (W.told crew.new) (told_as (K.state result.desk) (K.state desk)) (K.state result.desk)
         (plan_tree machine.plan) result.status }
+    ensures falls { IsTrue (K.state result.desk).tells → IsTrue (K.state desk).tells }
     ensures hires { HiresAtMost request.now.want (W.told crew.old) (W.told crew.new) }
     ensures asks { (K.state desk).asks ≤ (K.state result.desk).asks }
     ensures causes { HasEachCause result.status (counts_of (K.state desk) 0 (W.faults crew.old))
@@ -99,13 +102,14 @@ fn run_anew<K: Desk + Send, W: Crew, R: Threads + Wait + Sync>(
     requires fresh { StandsFor machine [] }
     requires kept { is_volatile shelf.place ≡ false }
     requires few { AreHands request.now.want }
-    ensures runs { (name : List ℕ) (entry : K)
-        → IsShelfOf K.state name (K.state entry) shelf
+    ensures runs { (name : List ℕ) (entry : DeskState)
+        → IsShelfOf K.state name entry shelf
         → Runs (gives_by W.Hand.gives W.Far.gives request.now.want) request.now
         (WasAsked (K.state (desk_of shelf)) (K.state result.desk)) name
-        (W.told crew.old) (W.told crew.new) (K.state entry) (K.state result.desk)
+        (W.told crew.old) (W.told crew.new) (told_as (K.state result.desk) entry) (K.state result.desk)
         (plan_tree machine.plan) result.status }
     ensures hires { HiresAtMost request.now.want (W.told crew.old) (W.told crew.new) }
+    ensures falls { IsTrue (K.state result.desk).tells → IsTrue (K.state (desk_of shelf)).tells }
     ensures asks { (K.state (desk_of shelf)).asks ≤ (K.state result.desk).asks }
     ensures causes { HasEachCause result.status (counts_of (K.state (desk_of shelf)) 0 (W.faults crew.old))
         (counts_of (K.state result.desk) 0 (W.faults crew.new)) }
@@ -141,14 +145,15 @@ fn hire_and_run<K: Desk + Send, W: Crew, R: Threads + Wait + Sync>(
     requires shelf { IsShelf K.state shelf }
     requires place { HasPlaceFor shelf.elements machine.plan }
     requires few { AreHands request.now.want }
-    ensures runs { (name : List ℕ) (entry : K)
-        → IsShelfOf K.state name (K.state entry) shelf
-        → (Unhired name (K.state entry) (K.state result.desk) (W.told crew.old) (W.told crew.new) result.status
+    ensures runs { (name : List ℕ) (entry : DeskState)
+        → IsShelfOf K.state name entry shelf
+        → (Unhired name (told_as (K.state result.desk) entry) (K.state result.desk) (W.told crew.old) (W.told crew.new) result.status
         ⊎ (Hires request.now.want (W.told crew.old) (W.told crew.new)
         × RunsAnew (gives_by W.Hand.gives W.Far.gives request.now.want) request.now
         (WasAsked (K.state (desk_of shelf)) (K.state result.desk)) (W.told crew.new).back
-        name shelf.elements machine.plan (K.state entry) (K.state result.desk) result.status)) }
+        name shelf.elements machine.plan (told_as (K.state result.desk) entry) (K.state result.desk) result.status)) }
     ensures hires { HiresAtMost request.now.want (W.told crew.old) (W.told crew.new) }
+    ensures falls { IsTrue (K.state result.desk).tells → IsTrue (K.state (desk_of shelf)).tells }
     ensures asks { (K.state (desk_of shelf)).asks ≤ (K.state result.desk).asks }
     ensures causes { HasEachCause result.status (counts_of (K.state (desk_of shelf)) 0 (W.faults crew.old))
         (counts_of (K.state result.desk) 0 (W.faults crew.new)) }
@@ -186,11 +191,12 @@ fn run_in<K: Desk + Send, P: Performer + Send, R: Threads + Wait + Sync>(
     requires all { vec_len hands.old ≡ number_of request.now.want }
     requires few { AreHands request.now.want }
     requires idle { AllByRecursion IsFresh (map P.did hands.old.items) }
-    ensures runs { (name : List ℕ) (entry : K)
-        → IsShelfOf K.state name (K.state entry) shelf
+    ensures runs { (name : List ℕ) (entry : DeskState)
+        → IsShelfOf K.state name entry shelf
         → RunsAnew P.gives request.now (WasAsked (K.state (desk_of shelf)) (K.state result.desk))
         (Some (map P.did hands.new.items)) name shelf.elements machine.plan
-        (K.state entry) (K.state result.desk) result.status }
+        (told_as (K.state result.desk) entry) (K.state result.desk) result.status }
+    ensures falls { IsTrue (K.state result.desk).tells → IsTrue (K.state (desk_of shelf)).tells }
     ensures asks { (K.state (desk_of shelf)).asks ≤ (K.state result.desk).asks }
     ensures causes { HasEachCause result.status (counts_of (K.state (desk_of shelf)) 0 0)
         (counts_of (K.state result.desk) 0 0) }

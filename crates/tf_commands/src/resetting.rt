@@ -1,6 +1,7 @@
 //! How a flow that was reverted is put back, to be run anew.
 
-ghost use Rattle.std.specs.Prelude.{◌≡◌, ◌≢◌, ◌≤◌, ℕ, List, Option, None, Some, false, IsSome};
+ghost use Rattle.std.specs.Prelude.{◌≡◌, ◌≢◌, ◌≤◌, ℕ, List, Option, None, Some, false, IsSome, IsTrue};
+ghost use Rattle.tf_desk.specs.State.{DeskState, told_as};
 ghost use Rattle.tf_book.specs.Book.{BookValue};
 ghost use Rattle.tf_commands.specs.Books.{ResetsBook};
 ghost use Rattle.tf_commands.specs.Asking.{HasEachCause, counts_of};
@@ -19,7 +20,9 @@ use tf_values::{Name, Text};
 /// Opens the flow of a book that is asked for, and puts it back, which has to be REVERTED with every atom settled: each
 /// REVERTED or IGNORE atom becomes PENDING, in tree order, and then the flow does.
 pub fn reset_book<K: Desk>(alloc: Global, name: &Text, wanted: &Option<Name>, desk: K) -> Over<K>
-    ensures resets { ResetsBook name.now wanted.now (K.state desk) (K.state result.desk) result.status }
+    ensures resets { ResetsBook name.now wanted.now (told_as (K.state result.desk) (K.state desk))
+        (K.state result.desk) result.status }
+    ensures falls { IsTrue (K.state result.desk).tells → IsTrue (K.state desk).tells }
     ensures asks { (K.state desk).asks ≤ (K.state result.desk).asks }
     ensures causes { HasEachCause result.status (counts_of (K.state desk) 0 0)
         (counts_of (K.state result.desk) 0 0) }
@@ -35,10 +38,11 @@ fn put_back<K: Desk>(alloc: Global, mut book: Book<K>) -> Over<K>
     requires sound { book.halt ≡ None }
     requires speaks { book.quiet ≡ false }
     requires kept { book.journal.volatile ≡ false }
-    ensures goes { (name : List ℕ) (wanted : Option (List ℕ)) (entry : K)
-        → Open name (K.state entry) (K.state book.journal.desk)
-        → HoldsBook name wanted (K.state entry) book
-        → ResetsBook name wanted (K.state entry) (K.state result.desk) result.status }
+    ensures goes { (name : List ℕ) (wanted : Option (List ℕ)) (entry : DeskState)
+        → Open name entry (K.state book.journal.desk)
+        → HoldsBook name wanted entry book
+        → ResetsBook name wanted entry (K.state result.desk) result.status }
+    ensures tells { (K.state result.desk).tells ≡ (K.state book.journal.desk).tells }
     ensures asks { (K.state book.journal.desk).asks ≤ (K.state result.desk).asks }
     ensures causes { HasEachCause result.status (counts_of (K.state book.journal.desk) 0 0)
         (counts_of (K.state result.desk) 0 0) }

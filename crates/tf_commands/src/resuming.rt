@@ -1,6 +1,7 @@
 //! A run that goes on from the history which a book holds.
 
-ghost use Rattle.std.specs.Prelude.{◌≡◌, ◌≢◌, ◌≤◌, ℕ, List, [], Option, false, None, Some};
+ghost use Rattle.std.specs.Prelude.{◌≡◌, ◌≢◌, ◌≤◌, ℕ, List, [], Option, false, None, Some, IsTrue};
+ghost use Rattle.tf_desk.specs.State.{DeskState, told_as};
 ghost use Rattle.tf_book.specs.Book.{BookValue, flow_state};
 ghost use Rattle.tf_model.specs.Steps.{has_ended};
 ghost use Rattle.tf_commands.specs.Asking.{AreHands, HasEachCause, WasAsked, counts_of};
@@ -38,7 +39,9 @@ pub fn resume_book<K: Desk + Send, W: Crew, R: Threads + Wait + Sync>(
     requires few { AreHands request.now.want }
     ensures resumes { Resumes (gives_by W.Hand.gives W.Far.gives request.now.want) request.now
         (WasAsked (K.state desk) (K.state result.desk)) name.now wanted.now
-        (W.told crew.old) (W.told crew.new) (K.state desk) (K.state result.desk) result.status }
+        (W.told crew.old) (W.told crew.new) (told_as (K.state result.desk) (K.state desk))
+        (K.state result.desk) result.status }
+    ensures falls { IsTrue (K.state result.desk).tells → IsTrue (K.state desk).tells }
     ensures hires { HiresAtMost request.now.want (W.told crew.old) (W.told crew.new) }
     ensures asks { (K.state desk).asks ≤ (K.state result.desk).asks }
     ensures causes { HasEachCause result.status (counts_of (K.state desk) 0 (W.faults crew.old))
@@ -63,13 +66,14 @@ fn go_on<K: Desk + Send, W: Crew, R: Threads + Wait + Sync>(
     requires spoken { request.now.quiet ≡ false }
     requires few { AreHands request.now.want }
     requires kept { book.journal.volatile ≡ false }
-    ensures goes { (name : List ℕ) (wanted : Option (List ℕ)) (entry : K)
-        → Open name (K.state entry) (K.state book.journal.desk)
-        → HoldsBook name wanted (K.state entry) book
+    ensures goes { (name : List ℕ) (wanted : Option (List ℕ)) (entry : DeskState)
+        → Open name entry (K.state book.journal.desk)
+        → HoldsBook name wanted entry book
         → GoesFurther (gives_by W.Hand.gives W.Far.gives request.now.want) request.now
         (WasAsked (K.state book.journal.desk) (K.state result.desk))
-        name (K.state entry) book (W.told crew.old) (W.told crew.new) (K.state result.desk) result.status }
+        name entry book (W.told crew.old) (W.told crew.new) (K.state result.desk) result.status }
     ensures hires { HiresAtMost request.now.want (W.told crew.old) (W.told crew.new) }
+    ensures tells { (K.state result.desk).tells ≡ (K.state book.journal.desk).tells }
     ensures asks { (K.state book.journal.desk).asks ≤ (K.state result.desk).asks }
     ensures causes { HasEachCause result.status (counts_of (K.state book.journal.desk) 0 (W.faults crew.old))
         (counts_of (K.state result.desk) 0 (W.faults crew.new)) }
@@ -116,13 +120,14 @@ fn hire_and_go_on<K: Desk + Send, W: Crew, R: Threads + Wait + Sync>(
     requires few { AreHands request.now.want }
     requires kept { book.journal.volatile ≡ false }
     requires going { has_ended (flow_state book) ≡ false }
-    ensures goes { (name : List ℕ) (wanted : Option (List ℕ)) (entry : K)
-        → Open name (K.state entry) (K.state book.journal.desk)
-        → HoldsBook name wanted (K.state entry) book
+    ensures goes { (name : List ℕ) (wanted : Option (List ℕ)) (entry : DeskState)
+        → Open name entry (K.state book.journal.desk)
+        → HoldsBook name wanted entry book
         → GoesFurther (gives_by W.Hand.gives W.Far.gives request.now.want) request.now
         (WasAsked (K.state book.journal.desk) (K.state result.desk))
-        name (K.state entry) book (W.told crew.old) (W.told crew.new) (K.state result.desk) result.status }
+        name entry book (W.told crew.old) (W.told crew.new) (K.state result.desk) result.status }
     ensures hires { HiresAtMost request.now.want (W.told crew.old) (W.told crew.new) }
+    ensures tells { (K.state result.desk).tells ≡ (K.state book.journal.desk).tells }
     ensures asks { (K.state book.journal.desk).asks ≤ (K.state result.desk).asks }
     ensures causes { HasEachCause result.status (counts_of (K.state book.journal.desk) 0 (W.faults crew.old))
         (counts_of (K.state result.desk) 0 (W.faults crew.new)) }

@@ -1,4 +1,5 @@
-ghost use Rattle.std.specs.Prelude.{◌≡◌, ◌≤◌, None, Some};
+ghost use Rattle.std.specs.Prelude.{◌≡◌, ◌≤◌, None, Some, IsTrue};
+ghost use Rattle.tf_desk.specs.State.{told_as};
 ghost use Rattle.tf_numbers.specs.Numbers.{Rises};
 ghost use Rattle.tf_commands.specs.Asking.{IsWithin, want_of, IsWork, AsksForWork, HasCausesOr, HasNoFault, WasAsked, counts_of};
 ghost use Rattle.tf_commands.specs.Messages.{IsLogRefused};
@@ -76,10 +77,12 @@ pub fn taskflow<K: Desk + Send, S: Sources, W: Crew, L: Door, R: Threads + Wait 
     ensures refused { result.status ≡ REFUSED → IsRefused words.now (S.contents result.outside.sources) }
 
     // Status 15 comes only where the words are a command on a board which refuses it, by the commands that its file has.
-    ensures board_refused { result.status ≡ BOARD_REFUSED → IsBoardRefused words.now (K.state outside.desk) }
+    ensures board_refused { result.status ≡ BOARD_REFUSED → IsBoardRefused words.now
+        (told_as (K.state result.outside.desk) (K.state outside.desk)) }
 
     // Status 16 comes only where the words are a command on a book whose file is one of the older format.
-    ensures old_book { result.status ≡ OLD_BOOK → IsOldBook words.now (K.state outside.desk) }
+    ensures old_book { result.status ≡ OLD_BOOK → IsOldBook words.now
+        (told_as (K.state result.outside.desk) (K.state outside.desk)) }
 
     // Status 17 comes only where the words are an audit, whose flow file gives a plan, and whose log is too long or has a
     // line that can't be in a run of that plan.
@@ -92,7 +95,8 @@ pub fn taskflow<K: Desk + Send, S: Sources, W: Crew, L: Door, R: Threads + Wait 
     // alone), a stop was asked for or memory ran out; 13 comes only as the behaviour says, and 12 only where there is a
     // limit of entries.
     ensures complete { (command : AnAsked) → command_of words.now ≡ Some command
-        → MayBeDone command (S.contents result.outside.sources) (K.state outside.desk)
+        → MayBeDone command (S.contents result.outside.sources)
+        (told_as (K.state result.outside.desk) (K.state outside.desk))
         → ¬ (WasAsked (K.state outside.desk) (K.state result.outside.desk))
         → (IsWork command → ¬ (Rises (L.faults outside.door) (L.faults result.outside.door)))
         → HasNoFault (counts_of (K.state outside.desk) (S.faults outside.sources) (W.faults outside.crew))
@@ -105,6 +109,10 @@ pub fn taskflow<K: Desk + Send, S: Sources, W: Crew, L: Door, R: Threads + Wait 
 
     // Only a worker and the service of a board have to do with the door.
     ensures aside { ¬ (AsksForWork words.now) → L.told result.outside.door ≡ L.told outside.door }
+
+    // What the desk tells behind the command it told before it. The clauses above ask for what it tells behind it, of
+    // what was before too: an answer of the system may show that what was told of a file isn't so.
+    ensures falls { IsTrue (K.state result.outside.desk).tells → IsTrue (K.state outside.desk).tells }
 
     // A file can't be read, the disk fails, a text can't be said, no hands are hired and a door fails only where
     // the count of such faults rose; no count falls.
@@ -149,6 +157,7 @@ fn answer<K: Desk + Send, S: Sources, W: Crew, L: Door, R: Threads + Wait + Sync
         (ports_told W.told L.told crew.new door.new) desk result.desk result.status }
     ensures hires { HiresAsAsked words.now (W.told crew.old) (W.told crew.new) }
     ensures aside { ¬ (AsksForWork words.now) → L.told door.new ≡ L.told door.old }
+    ensures falls { IsTrue (K.state result.desk).tells → IsTrue (K.state desk).tells }
     ensures asks { (K.state desk).asks ≤ (K.state result.desk).asks }
     ensures door { L.faults door.old ≤ L.faults door.new }
     ensures causes { HasCausesOr (AsksForWork words.now × Rises (L.faults door.old) (L.faults door.new)) result.status
@@ -190,6 +199,7 @@ fn obey<K: Desk + Send, S: Sources, W: Crew, L: Door, R: Threads + Wait + Sync>(
         (ports_told W.told L.told crew.new door.new) desk result.desk result.status }
     ensures hires { HiresAsWanted (want_of asked) (W.told crew.old) (W.told crew.new) }
     ensures aside { ¬ (IsWork asked) → L.told door.new ≡ L.told door.old }
+    ensures falls { IsTrue (K.state result.desk).tells → IsTrue (K.state desk).tells }
     ensures asks { (K.state desk).asks ≤ (K.state result.desk).asks }
     ensures door { L.faults door.old ≤ L.faults door.new }
     ensures causes { HasCausesOr (IsWork asked × Rises (L.faults door.old) (L.faults door.new)) result.status
