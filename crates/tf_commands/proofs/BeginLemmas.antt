@@ -1,14 +1,15 @@
 -- How a run begins as a new detail of a book.
 use Rattle.std.proofs.Common.{◌≡◌, ◌≢◌, ◌⊎◌, ℕ, ◌≤◌, List, [], ◌∷◌, length, false, Option, Some, None, refl, sym, ap, ◌∙◌, subst, inl, inr, ⊎_elim, arith}
 use Rattle.std.specs.Prelude.{IsTrue, is_some}
-use Rattle.tf_desk.proofs.StateLemmas.{on_disk_told, goes_continues}
+use Rattle.tf_desk.proofs.StateLemmas.{passes_as, told_still, goes_continues}
 use Rattle.tf_numbers.specs.Numbers.{Rises}
 use Rattle.tf_desk.specs.Crash.{Pairs}
-use Rattle.tf_desk.specs.State.{DeskState, LeftNow, MayLeave as MayLeaveNow, bytes_now, GoesOn, Passes}
+use Rattle.tf_desk.specs.State.{DeskState, LeftNow, MayLeave as MayLeaveNow, bytes_now, told_as, Trusts, GoesOn, Passes}
 use Rattle.tf_flow.specs.Plan.{PlanValue}
+use Rattle.tf_journal.proofs.OpenLemmas.{open_lowered}
 use Rattle.tf_journal.proofs.PathLemmas.{set_start, path_widens, left_then}
 use Rattle.tf_journal.specs.Format.{Recovered, unborn, bodies, IsOpen, LeavesBodies}
-use Rattle.tf_journal.specs.Start.{file_of}
+use Rattle.tf_journal.specs.Start.{file_of, Open}
 use Rattle.tf_journal.specs.declared.title.Title.TheVariants.{Book2 as book_title}
 use Rattle.tf_details.specs.Elements.{Element, detail, bodies_of, book_size, IsHistoryOf, IsLegalBook, Contents}
 use Rattle.tf_book.specs.Book.{BookValue, bodies_with, begun_contents, HasPlaceFor, detail_body}
@@ -103,8 +104,8 @@ left_by call passes laws told image leaves =
 
 module _ {K : Type 0} (state : K → DeskState) where
   -- a file that was opened
-  pub shelf_quiet : {name : List ℕ} {entry : DeskState} {shelf : ShelfValue K} → IsShelfOf state name entry shelf → IsQuiet name entry (state (desk_of shelf))
-  shelf_quiet so = record { told = so.opened.untouched.told; shown = so.opened.untouched.quiet; disk = so.opened.untouched.disk; out = so.opened.untouched.out; set = so.opened.set }
+  pub shelf_quiet : {name : List ℕ} {entry mid : DeskState} → Open name entry mid → IsQuiet name entry mid
+  shelf_quiet opened = record { told = opened.untouched.told; shown = opened.untouched.quiet; disk = opened.untouched.disk; out = opened.untouched.out; set = opened.set }
 
   -- it stays as it was found
   found_still : (name : List ℕ) (entry : DeskState) (elements : List Element) (plan : PlanValue) (image : List ℕ) → image ≡ file_of entry name
@@ -112,52 +113,61 @@ module _ {K : Type 0} (state : K → DeskState) where
   found_still name entry elements plan image same = inr (refl, inl (ap book_in same))
 
   -- it couldn't begin, and the desk is as it was
-  pub stays_unbegun : {name : List ℕ} {entry : DeskState} {shelf : ShelfValue K} (plan : PlanValue) (now : K) → IsShelfOf state name entry shelf → now ≡ desk_of shelf → Unbegun name entry shelf.elements plan (state now)
-  stays_unbegun {name} {entry} {shelf} plan now so same = subst (λ (k : K). Unbegun name entry shelf.elements plan (state k)) (sym same) (record {
-    quiet = shelf_quiet so;
-    same = λ unrisen told. so.opened.untouched.file told;
-    path = λ told. path_widens (so.opened.untouched.path told)
-        (λ image text as_before. (found_still name entry shelf.elements plan image as_before.0, as_before.1))
-        (λ image is. found_still name entry shelf.elements plan image is);
-  })
+  pub stays_unbegun : {name : List ℕ} {entry : DeskState} {shelf : ShelfValue K} (plan : PlanValue) (now : K) → IsShelfOf state name entry shelf → now ≡ desk_of shelf
+      → Unbegun name (told_as (state now) entry) shelf.elements plan (state now)
+  stays_unbegun {name} {entry} {shelf} plan now so same =
+      subst (λ (k : K). Unbegun name (told_as (state k) entry) shelf.elements plan (state k)) (sym same)
+      (told_still (λ before. Unbegun name before shelf.elements plan (state (desk_of shelf))) so.opened.untouched.told (record {
+        quiet = shelf_quiet so.opened;
+        same = λ unrisen told. so.opened.untouched.file told;
+        path = λ told. path_widens (so.opened.untouched.path told)
+            (λ image text as_before. (found_still name entry shelf.elements plan image as_before.0, as_before.1))
+            (λ image is. found_still name entry shelf.elements plan image is);
+      }))
 
   -- it met a fault of the disk
   pub failed_unbegun : {name : List ℕ} {entry : DeskState} {shelf : ShelfValue K} {wide : Pairs} (plan : PlanValue) (now : DeskState) → IsShelf state shelf → IsShelfOf state name entry shelf → HasPlaceFor shelf.elements plan
-      → GoesOn wide (state (desk_of shelf)) now → (IsTold state shelf.place → Passes (LeavesBegun shelf plan (state (desk_of shelf)).shown) (state (desk_of shelf)) now) → FollowsLaws (state (desk_of shelf)) now
-      → IsHistoryOf plan [] → Rises (state (desk_of shelf)).disk_faults now.disk_faults → Unbegun name entry shelf.elements plan now
+      → Trusts (GoesOn wide) (state (desk_of shelf)) now
+      → (IsTold state shelf.place → IsTrue now.tells → Passes (LeavesBegun shelf plan (state (desk_of shelf)).shown) (state (desk_of shelf)) now) → FollowsLaws (state (desk_of shelf)) now
+      → IsHistoryOf plan [] → Rises (state (desk_of shelf)).disk_faults now.disk_faults → Unbegun name (told_as now entry) shelf.elements plan now
   failed_unbegun {name} {entry} {shelf} plan now s so has call passes laws history rose =
-      let q = shelf_quiet so in
+      let opened : Open name (told_as now entry) (told_as now (state (desk_of shelf))) = open_lowered now call.falls so.opened in
+      let q = shelf_quiet opened in
       let mid = state (desk_of shelf) in
       record {
-        quiet = quiet_on q call;
+        quiet = quiet_on q call.does;
         same = λ unrisen told. absurd (unrisen (omega (arith, q.disk, rose)));
         path = λ told.
-            let told_mid : IsTrue mid.tells = subst IsTrue (sym q.told) told in
+            let told_mid : IsTrue mid.tells = call.falls told in
+            let found = so.found (subst IsTrue so.opened.untouched.told told_mid) in
             let inside : (image text : List ℕ) → LeavesBegun shelf plan mid.shown image text → MayBegin (book_at entry name) shelf.elements plan mid.shown image text =
-            (λ image text l. begun_may state shelf plan (book_at entry name) mid.shown image text s (so.found told) has history l) in
+            (λ image text l. begun_may state shelf plan (book_at entry name) mid.shown image text s found has history l) in
             let start = set_start (q.set told) in
-            path_continues (so.opened.untouched.path told) (q.set told) (goes_continues call) told_mid (passes (shelf_told state shelf s told_mid))
+            let within : Passes (LeavesBegun shelf plan mid.shown) (told_as now mid) now = passes_as now (passes (shelf_told state shelf s told_mid) told) in
+            path_continues (opened.untouched.path told) (q.set told) (goes_continues call.does) told within
             (λ image text as_before. (found_still name entry shelf.elements plan image as_before.0, as_before.1))
             (λ image text l. subst (λ (o : Option (List ℕ)). MayBegin (book_at entry name) shelf.elements plan o image text) q.shown (inside image text l))
             (λ image leaves.
             ⊎_elim
-            (λ before. found_still name entry shelf.elements plan image ((so.opened.untouched.path told).still start.0 start.1 image before))
-            (λ within. (inside image within.0 within.1).0)
-            (left_by call (λ told_here. passes (shelf_told state shelf s told_here)) laws (on_disk_told call.on_disk told_mid) image leaves));
+            (λ before. found_still name entry shelf.elements plan image ((opened.untouched.path told).still start.0 start.1 image before))
+            (λ left. (inside image left.0 left.1).0)
+            (left_by call.does (λ told_here. within) (record { shows = laws.shows; reaches = laws.reaches; only = λ told_here. laws.only (call.falls told_here) }) told image leaves));
       }
 
   -- the book of the plan began
   pub begins_on : {name : List ℕ} {entry : DeskState} {shelf : ShelfValue K} {wide : Pairs} (plan : PlanValue) (book : BookValue K) → IsShelf state shelf → IsShelfOf state name entry shelf → HasPlaceFor shelf.elements plan
       → book.plan ≡ plan → book.past ≡ [] → book.contents ≡ begun_contents shelf.elements plan → book.halt ≡ None → book.journal.volatile ≡ false
-      → GoesOn wide (state (desk_of shelf)) (book_desk state book)
-      → (IsTold state shelf.place → Passes (LeavesBegun shelf plan (state (desk_of shelf)).shown) (state (desk_of shelf)) (book_desk state book))
+      → Trusts (GoesOn wide) (state (desk_of shelf)) (book_desk state book)
+      → (IsTold state shelf.place → IsTrue (book_desk state book).tells → Passes (LeavesBegun shelf plan (state (desk_of shelf)).shown) (state (desk_of shelf)) (book_desk state book))
       → (IsTrue (book_desk state book).tells → LeavesBodies book_title (book_desk state book) (bodies_with book.contents []))
-      → (EndsThere state shelf.place → IsExact (book_desk state book) book.contents)
+      → (EndsThere state shelf.place → IsTrue (book_desk state book).tells → IsExact (book_desk state book) book.contents)
       → IsHistoryOf book.plan book.past
-      → Begins state name entry shelf.elements plan book
+      → Begins state name (told_as (book_desk state book) entry) shelf.elements plan book
   begins_on {name} {entry} {shelf} plan book s so has plan_is past_is contents_is sound kept call passes rest exact history =
-      let q = shelf_quiet so in
+      let now = book_desk state book in
       let mid = state (desk_of shelf) in
+      let opened : Open name (told_as now entry) (told_as now mid) = open_lowered now call.falls so.opened in
+      let q = shelf_quiet opened in
       let good : IsHistoryOf plan [] = subst (λ (p : PlanValue). IsHistoryOf p []) plan_is (subst (IsHistoryOf book.plan) past_is history) in
       record {
         plan_is = plan_is;
@@ -165,21 +175,23 @@ module _ {K : Type 0} (state : K → DeskState) where
         contents_is = contents_is;
         sound = sound;
         kept = kept;
-        quiet = quiet_on q call;
+        quiet = quiet_on q call.does;
         path = λ told.
-            let told_mid : IsTrue mid.tells = subst IsTrue (sym q.told) told in
-            path_continues (so.opened.untouched.path told) (q.set told) (goes_continues call) told_mid (passes (shelf_told state shelf s told_mid))
+            let told_mid : IsTrue mid.tells = call.falls told in
+            let found = so.found (subst IsTrue so.opened.untouched.told told_mid) in
+            path_continues (opened.untouched.path told) (q.set told) (goes_continues call.does) told (passes_as now (passes (shelf_told state shelf s told_mid) told))
             (λ image text as_before. (found_still name entry shelf.elements plan image as_before.0, as_before.1))
             (λ image text l. subst (λ (o : Option (List ℕ)). MayBegin (book_at entry name) shelf.elements plan o image text) q.shown
-            (begun_may state shelf plan (book_at entry name) mid.shown image text s (so.found told) has good l))
+            (begun_may state shelf plan (book_at entry name) mid.shown image text s found has good l))
             (λ image is. record {
-              is = rest (on_disk_told call.on_disk told_mid) image is ∙ ap (λ (c : Contents). bodies (bodies_with c [])) contents_is;
+              is = rest told image is ∙ ap (λ (c : Contents). bodies (bodies_with c [])) contents_is;
               legal = legal_begun s.legal has good;
             });
         exact = λ told none short.
-            let told_mid : IsTrue mid.tells = subst IsTrue (sym q.told) told in
-            let long : length (bytes_now mid) ≤ 18 = omega (arith, ap length (opened_bytes so.opened told_mid), short) in
-            subst (IsExact (book_desk state book)) contents_is (exact (ends_at state shelf.place shelf.elements (book_at entry name) s.kept s.placed (so.found told) none told_mid long));
+            let told_mid : IsTrue mid.tells = call.falls told in
+            let found = so.found (subst IsTrue so.opened.untouched.told told_mid) in
+            let long : length (bytes_now mid) ≤ 18 = omega (arith, ap length (opened_bytes opened told), short) in
+            subst (IsExact (book_desk state book)) contents_is (exact (ends_at state shelf.place shelf.elements (book_at entry name) s.kept s.placed found none told_mid long) told);
       }
 
   -- why it couldn't begin, and what became of the file

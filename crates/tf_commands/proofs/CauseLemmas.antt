@@ -1,7 +1,7 @@
 -- What a status tells of the way that a command went.
 use Rattle.std.proofs.Common.{◌≡◌, ◌⊎◌, ℕ, ◌≤◌, List, Some, None, false, inl, inr, refl, subst, arith, ⊎_elim}
 use Rattle.tf_numbers.specs.Numbers.{Rises}
-use Rattle.tf_desk.specs.State.{DeskState}
+use Rattle.tf_desk.specs.State.{DeskState, told_as}
 use Rattle.tf_ports.specs.Ports.{Contents}
 use Rattle.tf_ports.specs.declared.crews.Want.{Want}
 use Rattle.tf_ports.specs.declared.crews.Want.TheVariants as want
@@ -100,7 +100,7 @@ older command entry name about ended = ended_wider (λ old. (name, about, old)) 
 
 module _ {K : Type 0} (state : K → DeskState) where
   asked_status : (gives : Want → Order → Outcome → Type 0) (asked_so : Type 0) (command : Asked) (files : Contents) (ports later : PortsTold) (entry now : K) (status : ℕ)
-      → Obeys state gives asked_so command files ports later entry now status → AskedStatus (IsOldOf command (state entry)) command files status
+      → Obeys state gives asked_so command files ports later entry now status → AskedStatus (IsOldOf command (told_as (state now) (state entry))) command files status
   asked_status gives asked_so (asked.Try file sets defer hands target) files ports later entry now status obeys =
       by_file (source_so file sets defer target) refl (file_status files (source_so file sets defer target) _ _ (state entry).shown (state now).shown status
       (λ plan did. tries_ended ports.crew later.crew (state entry).shown (state now).shown plan status did) obeys.0)
@@ -111,19 +111,19 @@ module _ {K : Type 0} (state : K → DeskState) where
       by_log (source_so file sets defer None) log refl refl (audit_status files (source_so file sets defer None) log (state entry).shown (state now).shown status _ obeys.0)
   asked_status gives asked_so (asked.Run file book sets defer hands stop target) files ports later entry now status obeys =
       by_file (source_so file sets defer target) refl (file_status files (source_so file sets defer target) _ _ (state entry).shown (state now).shown status
-      (λ plan did. older (asked.Run file book sets defer hands stop target) (state entry) book refl (runs_ended book ports.crew later.crew (state entry) (state now) plan status did)) obeys)
+      (λ plan did. older (asked.Run file book sets defer hands stop target) (told_as (state now) (state entry)) book refl (runs_ended book ports.crew later.crew (told_as (state now) (state entry)) (state now) plan status did)) obeys)
   asked_status gives asked_so (asked.Resume book name hands stop) files ports later entry now status obeys =
-      by_book (older (asked.Resume book name hands stop) (state entry) book refl (resumes_ended book name ports.crew later.crew (state entry) (state now) status obeys))
+      by_book (older (asked.Resume book name hands stop) (told_as (state now) (state entry)) book refl (resumes_ended book name ports.crew later.crew (told_as (state now) (state entry)) (state now) status obeys))
   asked_status gives asked_so (asked.Show book name) files ports later entry now status obeys =
-      by_book (older (asked.Show book name) (state entry) book refl (shows_ended book name (state entry) (state now) status obeys.0))
+      by_book (older (asked.Show book name) (told_as (state now) (state entry)) book refl (shows_ended book name (told_as (state now) (state entry)) (state now) status obeys.0))
   asked_status gives asked_so (asked.Reset book name) files ports later entry now status obeys =
-      by_book (older (asked.Reset book name) (state entry) book refl (resets_ended book name (state entry) (state now) status obeys.0))
+      by_book (older (asked.Reset book name) (told_as (state now) (state entry)) book refl (resets_ended book name (told_as (state now) (state entry)) (state now) status obeys.0))
   asked_status gives asked_so (asked.Details book) files ports later entry now status obeys =
-      by_book (older (asked.Details book) (state entry) book refl (lists_ended book (state entry) (state now) status obeys.0))
+      by_book (older (asked.Details book) (told_as (state now) (state entry)) book refl (lists_ended book (told_as (state now) (state entry)) (state now) status obeys.0))
   asked_status gives asked_so (asked.Migrate old new) files ports later entry now status obeys =
-      by_book (ended_wider (λ never. absurd never) (migrates_ended old new (state entry) (state now) status obeys.0))
+      by_book (ended_wider (λ never. absurd never) (migrates_ended old new (told_as (state now) (state entry)) (state now) status obeys.0))
   asked_status gives asked_so (asked.Demo seed size book hands) files ports later entry now status obeys =
-      by_book (older (asked.Demo seed size book hands) (state entry) book refl (demonstrates_ended book ports.crew later.crew entry now seed size status obeys))
+      by_book (older (asked.Demo seed size book hands) (told_as (state now) (state entry)) book refl (demonstrates_ended book ports.crew later.crew entry now seed size status obeys))
   asked_status gives asked_so (asked.Worker address sessions) files ports later entry now status obeys =
       by_book (works_ended status (works_one (gives (want.Local 1)) ports.crew later.crew ports.door later.door (state entry).shown (state now).shown address sessions status obeys.0))
   asked_status gives asked_so (asked.Conduct board owner hands) files ports later entry now status obeys =
@@ -131,7 +131,7 @@ module _ {K : Type 0} (state : K → DeskState) where
   asked_status gives asked_so (asked.Serve board address sessions) files ports later entry now status obeys =
       by_book (service_ended status (service_status obeys.0))
   asked_status gives asked_so (asked.Board board request) files ports later entry now status obeys =
-      by_board tt (does_status request board (state entry) (state now) status obeys.0)
+      by_board tt (does_status request board (told_as (state now) (state entry)) (state now) status obeys.0)
 
   -- status 2 comes only where the words are no command
   pub usage_tells : {gives : Want → Order → Outcome → Type 0} {asked_so : Type 0} (words : List (List ℕ)) (files : Contents) (ports later : PortsTold) (entry now : K) (status : ℕ)
@@ -152,9 +152,9 @@ module _ {K : Type 0} (state : K → DeskState) where
 
   on_board : (gives : Want → Order → Outcome → Type 0) (asked_so : Type 0) (words : List (List ℕ)) (command : Asked) (files : Contents) (ports later : PortsTold) (entry now : K) (status : ℕ)
       → command_of words ≡ Some command → IsOfBoard command → Obeys state gives asked_so command files ports later entry now status → status ≡ 15
-      → IsBoardRefused words (state entry)
+      → IsBoardRefused words (told_as (state now) (state entry))
   on_board gives asked_so words (asked.Board board request) files ports later entry now status asks about obeys is =
-      board_refuses words board request (state entry) (state now) status asks obeys.0 is
+      board_refuses words board request (told_as (state now) (state entry)) (state now) status asks obeys.0 is
   on_board gives asked_so words (asked.Try file sets defer hands target) files ports later entry now status asks about obeys is = absurd about
   on_board gives asked_so words (asked.Run file book sets defer hands stop target) files ports later entry now status asks about obeys is = absurd about
   on_board gives asked_so words (asked.Resume book name hands stop) files ports later entry now status asks about obeys is = absurd about
@@ -171,7 +171,7 @@ module _ {K : Type 0} (state : K → DeskState) where
 
   -- status 15 comes only where a board refuses
   pub board_tells : {gives : Want → Order → Outcome → Type 0} {asked_so : Type 0} (words : List (List ℕ)) (files : Contents) (ports later : PortsTold) (entry now : K) (status : ℕ)
-      → Behaviour state gives asked_so words files ports later entry now status → status ≡ 15 → IsBoardRefused words (state entry)
+      → Behaviour state gives asked_so words files ports later entry now status → status ≡ 15 → IsBoardRefused words (told_as (state now) (state entry))
   board_tells words files ports later entry now status (behaviour.unheard is same still) fifteen = absurd (omega (arith, is, fifteen))
   board_tells words files ports later entry now status (behaviour.no_command none closes still) fifteen =
       absurd (⊎_elim (λ is. omega (arith, is, fifteen)) (λ is. omega (arith, is, fifteen)) (closes_status (state entry).shown (state now).shown _ 2 status closes))
@@ -183,7 +183,7 @@ module _ {K : Type 0} (state : K → DeskState) where
 module _ {K : Type 0} (state : K → DeskState) where
   -- status 16 comes only where a book is one of the older format
   pub old_tells : {gives : Want → Order → Outcome → Type 0} {asked_so : Type 0} (words : List (List ℕ)) (files : Contents) (ports later : PortsTold) (entry now : K) (status : ℕ)
-      → Behaviour state gives asked_so words files ports later entry now status → status ≡ 16 → IsOldBook words (state entry)
+      → Behaviour state gives asked_so words files ports later entry now status → status ≡ 16 → IsOldBook words (told_as (state now) (state entry))
   old_tells words files ports later entry now status (behaviour.unheard is same still) sixteen = absurd (omega (arith, is, sixteen))
   old_tells words files ports later entry now status (behaviour.no_command none closes still) sixteen =
       absurd (⊎_elim (λ is. omega (arith, is, sixteen)) (λ is. omega (arith, is, sixteen)) (closes_status (state entry).shown (state now).shown _ 2 status closes))

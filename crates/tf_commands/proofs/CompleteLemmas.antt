@@ -1,7 +1,7 @@
 -- What was asked for and met no fault is done.
 use Rattle.std.proofs.Common.{◌≡◌, ◌⊎◌, ℕ, List, [], ◌++◌, length, Option, Some, None, Bool, true, false, inl, inr, refl, ◌∙◌, sym, subst, arith, ⊎_elim}
 use Rattle.std.specs.Prelude.{IsTrue}
-use Rattle.tf_desk.specs.State.{DeskState}
+use Rattle.tf_desk.specs.State.{DeskState, told_as}
 use Rattle.tf_flow.specs.Plan.{PlanValue, PlanTree}
 use Rattle.tf_ports.specs.Ports.{Contents, GivenBack, CrewTold}
 use Rattle.tf_ports.specs.declared.crews.Want.{Want}
@@ -236,10 +236,10 @@ runs_well {gives} {request} name crew crew_after entry now tree status u unasked
 runs_well name crew crew_after entry now tree status u unasked told has (hired_run elements plan same found place hires a) = anew_well name elements plan entry now status u unasked a
 
 demonstrates_well : {K : Type 0} {state : K → DeskState} {gives : Order → Outcome → Type 0} {hands : Want} {asked : Type 0} (name : List ℕ) (crew crew_after : CrewTold) (entry now : K) (seed size status : ℕ) → IsUnhurt status → ¬ asked → IsTrue (state entry).tells
-    → HasPlace (demo_tree seed size) (book_at (state entry) name) → Demonstrates state gives hands asked name crew crew_after entry now seed size status → IsRunComplete status
+    → HasPlace (demo_tree seed size) (book_at (told_as (state now) (state entry)) name) → Demonstrates state gives hands asked name crew crew_after entry now seed size status → IsRunComplete status
 demonstrates_well name crew crew_after entry now seed size status u unasked told has (ungenerated is same still) = out_well status is
 demonstrates_well {K} {state} name crew crew_after entry now seed size status u unasked told has (demonstrated runs) =
-    runs_well name crew crew_after (state entry) (state now) (demo_tree seed size) status u unasked told has runs
+    runs_well name crew crew_after (told_as (state now) (state entry)) (state now) (demo_tree seed size) status u unasked told has runs
 
 resumes_well : {gives : Order → Outcome → Type 0} {request : Request} {asked : Type 0} (name : List ℕ) (wanted : Option (List ℕ)) (crew crew_after : CrewTold) (entry now : DeskState) (status : ℕ) → IsUnhurt status → ¬ asked → IsTrue entry.tells
     → HoldsFlow wanted (book_at entry name) → Resumes gives request asked name wanted crew crew_after entry now status → IsRunCompleteBy request.limit status
@@ -284,7 +284,7 @@ out_complete (asked.Serve board address sessions) status is = inr (inl is)
 
 module _ {K : Type 0} (state : K → DeskState) where
   asked_well : (gives : Want → Order → Outcome → Type 0) (asked_so : Type 0) (command : Asked) (files : Contents) (ports later : PortsTold) (entry now : K) (status : ℕ) → IsUnhurt status → ¬ asked_so
-      → MayBeDone command files (state entry) → Obeys state gives asked_so command files ports later entry now status → IsComplete command status
+      → MayBeDone command files (told_as (state now) (state entry)) → Obeys state gives asked_so command files ports later entry now status → IsComplete command status
   asked_well gives asked_so (asked.Try file sets defer hands target) files ports later entry now status u unasked ready obeys =
       well_or_out None status files (source_so file sets defer target) (Tries (gives hands) hands asked_so ports.crew later.crew (state entry).shown (state now).shown) (λ dealt. tries_well ports.crew later.crew (state entry).shown (state now).shown dealt.plan status u unasked dealt.did)
       (accepted_done files (source_so file sets defer target) _ _ (state entry).shown (state now).shown status ready u.readable u.sayable obeys.0)
@@ -297,16 +297,16 @@ module _ {K : Type 0} (state : K → DeskState) where
       (accepted_done files (source_so file sets defer None) _ _ (state entry).shown (state now).shown status ready.0 u.readable u.sayable obeys.0))
       ready.1 (audit_status files (source_so file sets defer None) log (state entry).shown (state now).shown status _ obeys.0)
   asked_well gives asked_so (asked.Run file book sets defer hands stop target) files ports later entry now status u unasked ready obeys =
-      well_or_out stop status files (source_so file sets defer target) (Runs (gives hands) (spoken_run hands stop) asked_so book ports.crew later.crew (state entry) (state now))
-      (λ dealt. runs_well book ports.crew later.crew (state entry) (state now) dealt.plan status u unasked ready.1.0 (ready.1.1 dealt.bytes dealt.plan dealt.given dealt.gives) dealt.did)
+      well_or_out stop status files (source_so file sets defer target) (Runs (gives hands) (spoken_run hands stop) asked_so book ports.crew later.crew (told_as (state now) (state entry)) (state now))
+      (λ dealt. runs_well book ports.crew later.crew (told_as (state now) (state entry)) (state now) dealt.plan status u unasked ready.1.0 (ready.1.1 dealt.bytes dealt.plan dealt.given dealt.gives) dealt.did)
       (accepted_done files (source_so file sets defer target) _ _ (state entry).shown (state now).shown status ready.0 u.readable u.sayable obeys)
   asked_well gives asked_so (asked.Resume book name hands stop) files ports later entry now status u unasked ready obeys =
-      resumes_well book name ports.crew later.crew (state entry) (state now) status u unasked ready.0 ready.1 obeys
-  asked_well gives asked_so (asked.Show book name) files ports later entry now status u unasked ready obeys = shows_well book name (state entry) (state now) status u ready.0 ready.1 obeys.0
-  asked_well gives asked_so (asked.Reset book name) files ports later entry now status u unasked ready obeys = resets_well book name (state entry) (state now) status u ready.0 ready.1 obeys.0
-  asked_well gives asked_so (asked.Details book) files ports later entry now status u unasked ready obeys = lists_well book (state entry) (state now) status u ready.0 ready.1 obeys.0
+      resumes_well book name ports.crew later.crew (told_as (state now) (state entry)) (state now) status u unasked ready.0 ready.1 obeys
+  asked_well gives asked_so (asked.Show book name) files ports later entry now status u unasked ready obeys = shows_well book name (told_as (state now) (state entry)) (state now) status u ready.0 ready.1 obeys.0
+  asked_well gives asked_so (asked.Reset book name) files ports later entry now status u unasked ready obeys = resets_well book name (told_as (state now) (state entry)) (state now) status u ready.0 ready.1 obeys.0
+  asked_well gives asked_so (asked.Details book) files ports later entry now status u unasked ready obeys = lists_well book (told_as (state now) (state entry)) (state now) status u ready.0 ready.1 obeys.0
   asked_well gives asked_so (asked.Migrate old new) files ports later entry now status u unasked ready obeys =
-      migrates_well old new (state entry) (state now) status u.sound u.sayable ready.0 ready.1 ready.2 obeys.0
+      migrates_well old new (told_as (state now) (state entry)) (state now) status u.sound u.sayable ready.0 ready.1 ready.2 obeys.0
   asked_well gives asked_so (asked.Demo seed size book hands) files ports later entry now status u unasked ready obeys =
       demonstrates_well book ports.crew later.crew entry now seed size status u unasked ready.0 ready.1 obeys
   asked_well gives asked_so (asked.Worker address sessions) files ports later entry now status u unasked ready obeys =
@@ -316,12 +316,12 @@ module _ {K : Type 0} (state : K → DeskState) where
   asked_well gives asked_so (asked.Serve board address sessions) files ports later entry now status u unasked ready obeys =
       serves_complete obeys.0 ready.0 ready.1 u.sound u.sayable u.hirable
   asked_well gives asked_so (asked.Board board request) files ports later entry now status u unasked ready obeys =
-      complete_so request board (state entry) (state now) status obeys.0 ready.0 ready.1 u.sound u.sayable
+      complete_so request board (told_as (state now) (state entry)) (state now) status obeys.0 ready.0 ready.1 u.sound u.sayable
 
   -- where nothing stands against it and no count of faults rose, what was asked for was done
   pub completes : {gives : Want → Order → Outcome → Type 0} {asked_so : Type 0} (words : List (List ℕ)) (files : Contents) (ports later : PortsTold) (entry now : K) (status : ℕ) (before after : Counts)
       → Behaviour state gives asked_so words files ports later entry now status → HasEachCause status before after
-      → (command : Asked) → command_of words ≡ Some command → MayBeDone command files (state entry) → HasNoFault before after → ¬ asked_so → IsComplete command status
+      → (command : Asked) → command_of words ≡ Some command → MayBeDone command files (told_as (state now) (state entry)) → HasNoFault before after → ¬ asked_so → IsComplete command status
   completes words files ports later entry now status before after (behaviour.unheard is same still) causes command wanted ready none unasked = out_complete command status is
   completes words files ports later entry now status before after (behaviour.no_command unknown closes still) causes command wanted ready none unasked = absurd (cc)
   completes {gives} {asked_so} words files ports later entry now status before after (behaviour.obeyed other asks obeys) causes command wanted ready none unasked =

@@ -2,8 +2,8 @@
 use Rattle.std.proofs.Common.{◌≡◌, ◌≢◌, ◌⊎◌, ℕ, ◌≤◌, List, Option, sym, ◌∙◌, inl, inr, ⊎_elim, refl, arith}
 use Rattle.tf_numbers.specs.Numbers.{Rises}
 use Rattle.tf_desk.specs.Crash.{Pairs}
-use Rattle.tf_desk.specs.State.{DeskState, Rests, GoesOn, Continues}
-use Rattle.tf_journal.specs.Start.{Untouched}
+use Rattle.tf_desk.specs.State.{DeskState, Trusts, Rests, GoesOn, Continues}
+use Rattle.tf_journal.specs.Start.{Untouched, Open}
 use Rattle.tf_flow.specs.Plan.{PlanValue}
 use Rattle.tf_details.specs.Elements.{Element}
 use Rattle.tf_book.specs.declared.faults.BookFault.{BookFault}
@@ -30,14 +30,17 @@ pub record Reaches (old mid : DeskState) : Type 0 where
 pub reaches_itself : {old : DeskState} → Reaches old old
 reaches_itself = record { disk = omega arith; out = refl }
 
-pub untouched_reaches : {name : List ℕ} {old mid : DeskState} → Untouched name old mid → Reaches old mid
-untouched_reaches untouched = record { disk = untouched.disk; out = untouched.out }
+pub untouched_reaches : {name : List ℕ} {old mid : DeskState} → Trusts (Untouched name) old mid → Reaches old mid
+untouched_reaches call = record { disk = call.does.disk; out = call.does.out }
 
-pub goes_reaches : {during : Pairs} {old mid : DeskState} → GoesOn during old mid → Reaches old mid
-goes_reaches call = record { disk = call.on_disk.disk_faults; out = call.on_disk.out_faults }
+pub open_reaches : {name : List ℕ} {old mid : DeskState} → Trusts (Open name) old mid → Reaches old mid
+open_reaches call = record { disk = call.does.untouched.disk; out = call.does.untouched.out }
 
-pub rests_reaches : {old mid : DeskState} → Rests old mid → Reaches old mid
-rests_reaches rests = record { disk = rests.on_disk.disk_faults; out = rests.on_disk.out_faults }
+pub goes_reaches : {during : Pairs} {old mid : DeskState} → Trusts (GoesOn during) old mid → Reaches old mid
+goes_reaches call = record { disk = call.does.on_disk.disk_faults; out = call.does.on_disk.out_faults }
+
+pub rests_reaches : {old mid : DeskState} → Trusts Rests old mid → Reaches old mid
+rests_reaches call = record { disk = call.does.on_disk.disk_faults; out = call.does.on_disk.out_faults }
 
 -- a run went on from the desk that was reached
 pub ran_causes : {status : ℕ} {old mid now : DeskState} {crew crew_now : ℕ} → Reaches old mid → Continues mid now → HasEnded mid now status → crew ≤ crew_now
@@ -98,13 +101,13 @@ causes_beside entry now crew c hired = record {
 }
 
 -- a new detail couldn't begin, and that was said
-pub unbegun_causes : {K : Type 0} (state : K → DeskState) (elements : List Element) (plan : PlanValue) (why : BookFault) (old mid now : K) (status : ℕ) {during : Pairs} → GoesOn during (state old) (state mid)
+pub unbegun_causes : {K : Type 0} (state : K → DeskState) (elements : List Element) (plan : PlanValue) (why : BookFault) (old mid now : K) (status : ℕ) {during : Pairs} → Trusts (GoesOn during) (state old) (state mid)
     → FailsToBegin state elements plan why old mid → HasSaidHalt (cause_in why) (state mid) (state now) status → HasEachCause status (counts_of (state old) 0 0) (counts_of (state now) 0 0)
 unbegun_causes state elements plan why old mid now status call fails s = record {
-  none_falls = record { disk = omega (arith, call.on_disk.disk_faults, s.says.disk_faults); out = omega (arith, call.on_disk.out_faults, s.says.out_faults); sources = omega arith; crew = omega arith };
+  none_falls = record { disk = omega (arith, call.does.on_disk.disk_faults, s.says.disk_faults); out = omega (arith, call.does.on_disk.out_faults, s.says.out_faults); sources = omega arith; crew = omega arith };
   unread = λ is. absurd (s.apart.0 is);
   failed = λ is. (let rose : Rises (state old).disk_faults (state mid).disk_faults = disk_rose why fails (s.failed is) in omega (arith, rose, s.says.disk_faults));
-  unsaid = λ is. (let rose : Rises (state mid).out_faults (state now).out_faults = ⊎_elim (λ out. absurd (never_out why fails out)) (λ rose. rose) (s.unsaid is) in omega (arith, rose, call.on_disk.out_faults));
+  unsaid = λ is. (let rose : Rises (state mid).out_faults (state now).out_faults = ⊎_elim (λ out. absurd (never_out why fails out)) (λ rose. rose) (s.unsaid is) in omega (arith, rose, call.does.on_disk.out_faults));
   unhired = λ is. absurd (s.apart.1 is);
 }
   where

@@ -1,6 +1,6 @@
 -- How what was done ends: the statuses that it may have.
 use Rattle.std.proofs.Common.{◌≡◌, ◌⊎◌, ℕ, List, [], ◌++◌, length, Option, Some, Bool, true, false, inl, inr, refl, ◌∙◌, sym, ap, subst, arith, ⊎_elim}
-use Rattle.tf_desk.specs.State.{DeskState}
+use Rattle.tf_desk.specs.State.{DeskState, told_as}
 use Rattle.tf_flow.specs.Plan.{PlanValue, PlanTree}
 use Rattle.tf_ports.specs.declared.crews.Want.{Want}
 use Rattle.tf_actions.specs.declared.orders.Order.{Order}
@@ -187,9 +187,9 @@ runs_ended name crew crew_after entry now tree status (unhired_run elements plan
 runs_ended name crew crew_after entry now tree status (hired_run elements plan same held has hires a) = anew_ended name elements plan entry now status a
 
 pub demonstrates_ended : {K : Type 0} {state : K → DeskState} {gives : Order → Outcome → Type 0} {hands : Want} {asked : Type 0} (name : List ℕ) (crew crew_after : CrewTold) (entry now : K) (seed size status : ℕ)
-    → Demonstrates state gives hands asked name crew crew_after entry now seed size status → Ended (IsOldFile name (state entry)) status
+    → Demonstrates state gives hands asked name crew crew_after entry now seed size status → Ended (IsOldFile name (told_as (state now) (state entry))) status
 demonstrates_ended name crew crew_after entry now seed size status (ungenerated is same still) = out_ends status is
-demonstrates_ended {K} {state} name crew crew_after entry now seed size status (demonstrated runs) = runs_ended name crew crew_after (state entry) (state now) (demo_tree seed size) status runs
+demonstrates_ended {K} {state} name crew crew_after entry now seed size status (demonstrated runs) = runs_ended name crew crew_after (told_as (state now) (state entry)) (state now) (demo_tree seed size) status runs
 
 pub resumes_ended : {gives : Order → Outcome → Type 0} {request : Request} {asked : Type 0} (name : List ℕ) (wanted : Option (List ℕ)) (crew crew_after : CrewTold) (entry now : DeskState) (status : ℕ)
     → Resumes gives request asked name wanted crew crew_after entry now status → Ended (IsOldFile name entry) status

@@ -4,7 +4,7 @@ use Rattle.std.specs.Prelude.{IsTrue, nat_lt, not, ◌==◌, slice_index_or, unw
 use Rattle.std.proofs.lemmas.Bool.Decides.{nat_tests}
 use Rattle.std.specs.List.{position_or_len}
 use Rattle.tf_desk.proofs.StateLemmas.{rests_continues, left_stays}
-use Rattle.tf_desk.specs.State.{DeskState, Rests}
+use Rattle.tf_desk.specs.State.{DeskState, told_as, Rests}
 use Rattle.tf_flow.specs.Plan.{PlanValue}
 use Rattle.tf_model.specs.History.{flow_of}
 use Rattle.tf_journal.proofs.PathLemmas.{set_start}
@@ -89,12 +89,13 @@ asked_alike (Some name) a b number alike is = named_alike a b name alike ∙ is
 
 pub opened_holds : {K : Type 0} (state : K → DeskState) (name : List ℕ) (wanted : Option (List ℕ)) (entry : DeskState) (shelf : ShelfValue K) (number : ℕ) (book : BookValue K)
     → IsShelfOf state name entry shelf → IsPlaced state shelf.place shelf.elements → IsLegalBook shelf.elements → number < length (details shelf.elements)
-    → IsOpened state shelf number book → IsHeld book.plan book → IsAskedFor wanted shelf.elements number → HoldsBook name wanted entry book
-opened_holds state name wanted entry shelf number book so placed legal below o h asked told =
-    let told_mid : IsTrue (state (desk_of shelf)).tells = subst IsTrue (sym so.opened.untouched.told) told in
-    let same : bodies_of book.contents.elements ≡ bodies_of shelf.elements = o.bodies told_mid in
+    → IsOpened state shelf number book → IsHeld book.plan book → IsAskedFor wanted shelf.elements number
+    → (IsTrue (state book.journal.desk).tells → IsTrue (state (desk_of shelf)).tells) → HoldsBook name wanted (told_as (state book.journal.desk) entry) book
+opened_holds state name wanted entry shelf number book so placed legal below o h asked falls told =
+    let told_entry : IsTrue entry.tells = subst IsTrue so.opened.untouched.told (falls told) in
+    let same : bodies_of book.contents.elements ≡ bodies_of shelf.elements = o.bodies told in
     let alike = read_once book.contents.elements shelf.elements h.held.legal legal same in
-    let is = some_found state shelf.place shelf.elements (book_at entry name) placed (λ none. omega (arith, below, ap length none)) (so.found told) in
+    let is = some_found state shelf.place shelf.elements (book_at entry name) placed (λ none. omega (arith, below, ap length none)) (so.found told_entry) in
     record {
       holds = record { is = is ∙ ap bodies (sym same); held = h.held; past_is = h.told };
       asked = subst (IsAskedFor wanted book.contents.elements) (sym o.number_is) (asked_alike wanted book.contents.elements shelf.elements number alike asked);

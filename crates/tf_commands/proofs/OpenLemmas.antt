@@ -2,7 +2,7 @@
 use Rattle.std.proofs.Common.{◌≡◌, ◌≢◌, ◌⊎◌, ℕ, List, Option, inl, inr, ⊎_elim, arith}
 use Rattle.std.specs.Prelude.{IsTrue, Result, Ok, Err, IfOk, IfErr}
 use Rattle.tf_desk.specs.Crash.{Pairs}
-use Rattle.tf_desk.specs.State.{DeskState, OnDisk, Picks, Rests}
+use Rattle.tf_desk.specs.State.{DeskState, OnDisk, Trusts, Picks, Rests}
 use Rattle.tf_journal.proofs.OpenLemmas.{open_set}
 use Rattle.tf_journal.specs.Start.{Untouched, Open}
 use Rattle.tf_journal.specs.Format.{HasSynced}
@@ -24,27 +24,27 @@ whole_apart status (inr (inr a)) = (λ is. omega (arith, a, is), λ is. omega (a
 module _ {K : Type 0} (state : K → DeskState) where
   -- ---- what a load answered
 
-  pub unopened_so : (name : List ℕ) (entry : DeskState) (found : Result (ShelfValue K) (K × LoadFault)) → Untouched name entry (state (desk_after_load found))
-      → IfErr found (λ back. Untouched name entry (state back.0))
+  pub unopened_so : (name : List ℕ) (entry : DeskState) (found : Result (ShelfValue K) (K × LoadFault)) → Trusts (Untouched name) entry (state (desk_after_load found))
+      → IfErr found (λ back. Trusts (Untouched name) entry (state back.0))
   unopened_so name entry (Ok shelf) untouched = tt
   unopened_so name entry (Err back) untouched = untouched
 
   -- without a fault of the disk the file is open
-  pub opened_so : (name : List ℕ) (entry mid : DeskState) {during : Pairs} (found : Result (ShelfValue K) (K × LoadFault)) → OnDisk during entry mid → (IsTrue entry.tells → Picks name entry mid)
-      → Rests mid (state (desk_after_load found))
-      → (IsTrue mid.tells → IfErr found (λ back. back.1 ≢ load_fault.Disk) → HasSynced mid (state (desk_after_load found)))
-      → Untouched name entry (state (desk_after_load found))
-      → IfOk found (λ shelf. Open name entry (state (desk_of shelf)))
+  pub opened_so : (name : List ℕ) (entry mid : DeskState) {during : Pairs} (found : Result (ShelfValue K) (K × LoadFault)) → Trusts (OnDisk during) entry mid → (IsTrue mid.tells → Picks name entry mid)
+      → Trusts Rests mid (state (desk_after_load found))
+      → (IsTrue (state (desk_after_load found)).tells → IfErr found (λ back. back.1 ≢ load_fault.Disk) → HasSynced mid (state (desk_after_load found)))
+      → Trusts (Untouched name) entry (state (desk_after_load found))
+      → IfOk found (λ shelf. Trusts (Open name) entry (state (desk_of shelf)))
   opened_so name entry mid (Ok shelf) call picks rests synced untouched = open_set call picks rests (λ telling. synced telling tt) untouched
   opened_so name entry mid (Err back) call picks rests synced untouched = tt
 
   -- ---- a book that was opened is shown
 
-  pub shows_whole : (name : List ℕ) (wanted : Option (List ℕ)) (entry now : K) (status : ℕ) (book : BookValue K)
-      → ((n : List ℕ) (e : K) → Untouched n (state e) (book_desk state book)
-      → RefusesOrStops n (state e) (state now) (history_text (outline book) book.past) SUCCEEDED status)
-      → Untouched name (state entry) (book_desk state book) → HoldsBook name wanted (state entry) book
-      → ShowsBook name wanted (state entry) (state now) status
+  pub shows_whole : (name : List ℕ) (wanted : Option (List ℕ)) (entry : DeskState) (now : K) (status : ℕ) (book : BookValue K)
+      → ((n : List ℕ) (e : DeskState) → Untouched n e (book_desk state book)
+      → RefusesOrStops n e (state now) (history_text (outline book) book.past) SUCCEEDED status)
+      → Untouched name entry (book_desk state book) → HoldsBook name wanted entry book
+      → ShowsBook name wanted entry (state now) status
   shows_whole name wanted entry now status book shows untouched holds =
       ⊎_elim (λ stops. unfound_show (unopened_book (exhausted stops)))
       (λ refuses. shown_whole book.contents book.plan book.past holds refuses)

@@ -6,7 +6,7 @@ use Rattle.tf_model.specs.Plan.{outline_of}
 use Rattle.tf_ports.specs.Ports.{GivenBack, IsFresh}
 use Rattle.tf_desk.proofs.StateLemmas.{extends_told}
 use Rattle.tf_desk.specs.Crash.{Pairs, ShowsPrefix}
-use Rattle.tf_desk.specs.State.{DeskState, Continues, Says}
+use Rattle.tf_desk.specs.State.{DeskState, told_as, Continues, Says}
 use Rattle.tf_flow.specs.Plan.{PlanValue}
 use Rattle.tf_journal.specs.Format.{Recovered, bodies, LeavesBodies}
 use Rattle.tf_journal.specs.Start.{Path, IsSet, Untouched, Open, file_of, IsStart}
@@ -116,20 +116,20 @@ unbegun_promised gives request asked did name elements plan entry mid now closin
 
 -- a new detail that couldn't begin, and why that was said
 pub unbegun_anew : {K : Type 0} (state : K → DeskState) (gives : Order → Outcome → Type 0) (request : Request) (asked : Type 0) (did : List (Option (List Order))) (name : List ℕ) (elements : List Element) (plan : PlanValue) (why : BookFault)
-    (entry opened mid now : K) (status : ℕ) → Open name (state entry) (state opened) → Unbegun name (state entry) elements plan (state mid) → FailsToBegin state elements plan why opened mid
+    (entry : DeskState) (opened mid now : K) (status : ℕ) → Open name entry (told_as (state mid) (state opened)) → Unbegun name entry elements plan (state mid) → FailsToBegin state elements plan why opened mid
     → HasSaidHalt (cause_in why) (state mid) (state now) status → ReadsPicked name (state now) → AllByRecursion IsFresh did
-    → RunsAnew gives request asked (Some did) name elements plan (state entry) (state now) status
+    → RunsAnew gives request asked (Some did) name elements plan entry (state now) status
 unbegun_anew state gives request asked did name elements plan fault.Disk entry opened mid now status o u fails s laws fresh =
-    ran (unbegun_promised gives request asked did name elements plan (state entry) (state mid) (state now) s.closing status u (inl s.ends) s.says laws fresh)
+    ran (unbegun_promised gives request asked did name elements plan entry (state mid) (state now) s.closing status u (inl s.ends) s.says laws fresh)
 unbegun_anew state gives request asked did name elements plan fault.Memory entry opened mid now status o u fails s laws fresh =
-    ran (unbegun_promised gives request asked did name elements plan (state entry) (state mid) (state now) s.closing status u (inr s.ends) s.says laws fresh)
+    ran (unbegun_promised gives request asked did name elements plan entry (state mid) (state now) s.closing status u (inr s.ends) s.says laws fresh)
 unbegun_anew {K} state gives request asked did name elements plan (fault.Full size need) entry opened mid now status o u fails s laws fresh = by s.ends
   where
-    untouched : Untouched name (state entry) (state mid)
-    untouched = subst (λ (d : K). Untouched name (state entry) (state d)) (sym fails.1) o.untouched
+    untouched : Untouched name entry (state mid)
+    untouched = subst (λ (d : K). Untouched name entry (told_as (state mid) (state d))) (sym fails.1) o.untouched
 
-    by : SaysHalt (state mid).shown (state now).shown (halt.Full size need) s.closing status → RunsAnew gives request asked (Some did) name elements plan (state entry) (state now) status
-    by (inl out) = ran (unbegun_promised gives request asked did name elements plan (state entry) (state mid) (state now) s.closing status u (inr out) s.says laws fresh)
+    by : SaysHalt (state mid).shown (state now).shown (halt.Full size need) s.closing status → RunsAnew gives request asked (Some did) name elements plan entry (state now) status
+    by (inl out) = ran (unbegun_promised gives request asked did name elements plan entry (state mid) (state now) s.closing status u (inr out) s.says laws fresh)
     by (inr said) = overfull size need fresh fails.0
         (refuses_untouched (book_full size need) FULL status untouched said.1 (subst (λ (text : List ℕ). Says text (state mid) (state now)) said.0 s.says))
 unbegun_anew state gives request asked did name elements plan fault.Out entry opened mid now status o u fails s laws fresh = absurd fails

@@ -235,3 +235,39 @@ untouched_now {name} {now} = record {
   disk = omega arith;
   out = refl;
 }
+
+-- ---- what was done before the desk told less
+
+start_raised : {name : List ℕ} {entry now : DeskState} {moment : ℕ} (end : DeskState) → IsStart name (told_as end entry) (told_as end now) moment → IsStart name entry now moment
+start_raised end start = record { more = start.more; added = start.added; first = start.first }
+
+path_lowered : {name : List ℕ} {entry now : DeskState} {may : Pairs} {held : List ℕ → Type 0} (end : DeskState) → Path name entry now may held → Path name (told_as end entry) (told_as end now) may held
+path_lowered end path = record {
+  others = path.others;
+  within = λ moment start. path.within moment (start_raised end start);
+  crash = λ moment start. path.crash moment (start_raised end start);
+  still = λ moment start. path.still moment (start_raised end start);
+}
+
+pub set_lowered : {name : List ℕ} {entry now : DeskState} (end : DeskState) → IsSet name entry now → IsSet name (told_as end entry) (told_as end now)
+set_lowered end set = record { picked = set.picked; more = set.more; added = set.added; has_pick = set.has_pick; has_sync = set.has_sync }
+
+pub untouched_lowered : {name : List ℕ} {entry mid : DeskState} (end : DeskState) → (IsTrue end.tells → IsTrue mid.tells) → Untouched name entry mid
+    → Untouched name (told_as end entry) (told_as end mid)
+untouched_lowered {name} {entry} {mid} end falls u = record {
+  told = refl;
+  quiet = u.quiet;
+  file = λ told. u.file (before told);
+  path = λ told. path_lowered end (u.path (before told));
+  disk = u.disk;
+  out = u.out;
+}
+  where
+    before : IsTrue end.tells → IsTrue entry.tells
+    before told = subst IsTrue u.told (falls told)
+
+pub open_lowered : {name : List ℕ} {entry mid : DeskState} (end : DeskState) → (IsTrue end.tells → IsTrue mid.tells) → Open name entry mid → Open name (told_as end entry) (told_as end mid)
+open_lowered end falls opened = record {
+  untouched = untouched_lowered end falls opened.untouched;
+  set = λ told. set_lowered end (opened.set (subst IsTrue opened.untouched.told (falls told)));
+}

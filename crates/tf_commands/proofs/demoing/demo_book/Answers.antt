@@ -1,4 +1,5 @@
 use Rattle.std.proofs.Common.{subst}
+use Rattle.tf_desk.specs.State.{told_as}
 use Rattle.tf_flow.specs.Plan.{PlanTree}
 use Rattle.tf_ports.specs.declared.crews.Want.TheVariants as want
 use Rattle.tf_commands.specs.Books.{Runs, demonstrated, unspoken}
@@ -12,4 +13,4 @@ returns-in-Ok-clause-demonstrates g c =
     let entry = D.state c.args.desk in
     let now = D.state run.result.desk in
     demonstrated (subst (λ (t : PlanTree). Runs g.W.Hand.Performer.gives (unspoken (want.Local c.args.hands)) (WasAsked entry now)
-    c.args.name.now (g.W.Crew.told c.args.crew.now) (g.W.Crew.told run.new.crew) entry now t run.result.status) c.in-Ok.ensures.generated run.ensures.runs)
+    c.args.name.now (g.W.Crew.told c.args.crew.now) (g.W.Crew.told run.new.crew) (told_as now entry) now t run.result.status) c.in-Ok.ensures.generated run.ensures.runs)

@@ -14,6 +14,6 @@ returns-in-Ok-clause-lists g c = λ name entry so.
     let shelf = c.args.shelf in
     let text : c.deref.result.now ≡ detail_lines 0 (listed shelf.elements) =
     c.deref.ensures.value ∙ c.in-Ok.ensures ∙ ap (λ (made : List ℕ). made ++ detail_lines 0 c.details.result.now) c.new-text.ensures.items ∙ ap (detail_lines 0) d.list in
-    were_listed shelf.elements (λ told. book_found D.state shelf.place shelf.elements (book_at (D.state entry) name) d.placed d.legal (so.found told))
-    (subst (λ (message : List ℕ). Refuses name (D.state entry) (D.state c.say_over.result.desk) message SUCCEEDED c.say_over.result.status) text
+    were_listed shelf.elements (λ told. book_found D.state shelf.place shelf.elements (book_at entry name) d.placed d.legal (so.found told))
+    (subst (λ (message : List ℕ). Refuses name entry (D.state c.say_over.result.desk) message SUCCEEDED c.say_over.result.status) text
     (c.say_over.ensures.refuses name entry (untouched_by D.state _ c.close-desk.result (sym c.close-desk.ensures) so.opened.untouched)))

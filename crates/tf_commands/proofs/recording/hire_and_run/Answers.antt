@@ -1,4 +1,6 @@
-use Rattle.std.proofs.Common.{inl, inr, sym, map}
+use Rattle.std.proofs.Common.{inl, inr, sym, ap, ◌∙◌, map}
+use Rattle.tf_desk.proofs.StateLemmas.{told_still}
+use Rattle.tf_commands.specs.Books.{Unhired}
 use Rattle.tf_commands.proofs.BookLemmas.{untouched_by, unhired_so}
 use Rattle.tf_commands.proofs.WantLemmas.{near_count, far_count, hires_back, long_back, anew_near, anew_far}
 use Rattle.tf_commands.proofs.recording.hire_and_run.Goals as goal
@@ -21,7 +23,10 @@ returns-in-Ok-Remote-clause-runs g c = λ name entry so.
 
 pub returns-in-Err-clause-runs : goal.returns-in-Err-clause-runs
 returns-in-Err-clause-runs g c = λ name entry so.
-    inl (unhired_so c.in-Err.ensures.not_hired (c.say_unhired.ensures.refuses name entry (untouched_by g.K.Desk.state _ _ (sym c.close.ensures) so.opened.untouched)))
+    let D = g.K.Desk in
+    inl (told_still (λ before. Unhired name before (D.state c.say_unhired.result.desk) _ _ c.say_unhired.result.status)
+    (c.say_unhired.ensures.said.says.tells ∙ ap (λ k. (D.state k).tells) c.close.ensures ∙ so.opened.untouched.told)
+    (unhired_so c.in-Err.ensures.not_hired (c.say_unhired.ensures.refuses name entry (untouched_by D.state _ _ (sym c.close.ensures) so.opened.untouched))))
 
 pub returns-in-Ok-Local-clause-hires : goal.returns-in-Ok-Local-clause-hires
 returns-in-Ok-Local-clause-hires g c =

@@ -13,7 +13,7 @@ returns-in-Success-clause-goes g c =
     let status = c.report_ended.result.status in
     let at = c.state-state.ensures in
     λ name wanted entry opened holds.
-    ended_goes D.state (gives_by g.W.Hand.Performer.gives g.W.Far.Performer.gives c.args.request.now.want) c.args.request.now _ name wanted (D.state entry) c.args.book (D.state now) status _ c.state-state.result
+    ended_goes D.state (gives_by g.W.Hand.Performer.gives g.W.Far.Performer.gives c.args.request.now.want) c.args.request.now _ name wanted entry c.args.book (D.state now) status _ c.state-state.result
     opened holds c.requires.kept at.is (ended_so c.state-state.result c.in-Success.is)
     (ended_on D.state (gives_by g.W.Hand.Performer.gives g.W.Far.Performer.gives c.args.request.now.want) c.args.request.now (WasAsked (D.state c.args.book.journal.desk) (D.state now)) c.args.book (D.state now) status c.state-state.result
     c.requires.sound c.requires.speaks at.is (ended_so c.state-state.result c.in-Success.is) at.history (record { held = at.held; told = at.told }) at.limits at.short (c.report_ended.ensures.runs c.args.book c.requires.spoken))

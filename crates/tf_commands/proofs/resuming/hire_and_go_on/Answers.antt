@@ -19,7 +19,7 @@ returns-in-Ok-Local-clause-goes g c =
       refl,
     ))
     (promised_near _ c.args.request.now _ _ e.field-0 e.hands e.field-0-is e.ensures.all c.dismiss.ensures.back
-    (resumed_promised D.state _ c.args.request.now _ _ name wanted (D.state entry) c.args.book (D.state now) c.run_book-over.result.status
+    (resumed_promised D.state _ c.args.request.now _ _ name wanted entry c.args.book (D.state now) c.run_book-over.result.status
     opened c.requires.kept holds c.run_book-over.ensures.runs
     (record { there = λ told picked. here.picked_is_there now name told picked; reads = λ told bytes is. here.reads_left now name bytes told is }) c.requires.speaks))
 
@@ -37,7 +37,7 @@ returns-in-Ok-Remote-clause-goes g c =
       refl,
     ))
     (promised_far _ c.args.request.now _ _ e.field-0 e.hands e.field-0-is e.ensures.all c.dismiss-in-Ok-Remote.ensures.back
-    (resumed_promised D.state _ c.args.request.now _ _ name wanted (D.state entry) c.args.book (D.state now) run.result.status
+    (resumed_promised D.state _ c.args.request.now _ _ name wanted entry c.args.book (D.state now) run.result.status
     opened c.requires.kept holds run.ensures.runs
     (record { there = λ told picked. here.picked_is_there now name told picked; reads = λ told bytes is. here.reads_left now name bytes told is }) c.requires.speaks))
 
