@@ -117,7 +117,7 @@ module _ {K : Type 0} (state : K → DeskState) where
       → Unbegun name (told_as (state now) entry) shelf.elements plan (state now)
   stays_unbegun {name} {entry} {shelf} plan now so same =
       subst (λ (k : K). Unbegun name (told_as (state k) entry) shelf.elements plan (state k)) (sym same)
-      (told_still (λ before. Unbegun name before shelf.elements plan (state (desk_of shelf))) so.opened.untouched.told (record {
+      (told_still (λ before. Unbegun name before shelf.elements plan (state (desk_of shelf))) entry so.opened.untouched.told (record {
         quiet = shelf_quiet so.opened;
         same = λ unrisen told. so.opened.untouched.file told;
         path = λ told. path_widens (so.opened.untouched.path told)

@@ -414,16 +414,12 @@ trusts_passes a told = let p = a.does.on_disk.crash told in record { later = p.l
 -- ---- a state before calls, telling what is told behind them
 
 -- what holds behind a call that leaves what the desk tells
-pub told_through : (P : DeskState → Type 0) {entry mid now : DeskState} → now.tells ≡ mid.tells → P (told_as mid entry) → P (told_as now entry)
-told_through P {entry} {mid} {now} same holds = subst (λ (tells : Bool). P (record entry { tells = tells })) (sym same) holds
+pub told_through : (P : DeskState → Type 0) (entry : DeskState) {mid now : Bool} → now ≡ mid → P (record entry { tells = mid }) → P (record entry { tells = now })
+told_through P entry same holds = subst (λ (tells : Bool). P (record entry { tells = tells })) (sym same) holds
 
 -- and where it told as much before
-pub told_still : (P : DeskState → Type 0) {entry now : DeskState} → now.tells ≡ entry.tells → P entry → P (told_as now entry)
-told_still P {entry} {now} same holds = subst (λ (tells : Bool). P (record entry { tells = tells })) (sym same) holds
-
--- what is told behind calls of which the first may tell less
-pub falls_on : {Does : DeskState → DeskState → Type 0} {old mid new : DeskState} → Trusts Does old mid → new.tells ≡ mid.tells → IsTrue new.tells → IsTrue old.tells
-falls_on a same told = a.falls (subst IsTrue same told)
+pub told_still : (P : DeskState → Type 0) (entry : DeskState) {now : Bool} → now ≡ entry.tells → P entry → P (record entry { tells = now })
+told_still P entry same holds = subst (λ (tells : Bool). P (record entry { tells = tells })) (sym same) holds
 
 pub passes_as : {during : Pairs} {old new : DeskState} (end : DeskState) → Passes during old new → Passes during (told_as end old) new
 passes_as end a = record { later = a.later; since = a.since; keeps = a.keeps }

@@ -7,7 +7,7 @@ use Rattle.tf_desk.specs.Crash.{Mark, at_pick, at_sync, Pairs, IsLeft}
 use Rattle.tf_desk.specs.State.{DeskState, bytes_now, MayLeave, LeftNow, FilesStay, Passes, nothing_left, OnDisk, told_as, Trusts, Rests, Picks, PicksNone, LeavesMade}
 use Rattle.tf_desk.proofs.StateLemmas.{left_stays, on_disk_told, on_disk_lowered}
 use Rattle.tf_journal.specs.Format.{HasSynced, IsSynced}
-use Rattle.tf_journal.specs.Start.{file_of, first_pick, first_sync, IsFirm, IsStart, Path, IsAsBefore, IsSame, Untouched, Open}
+use Rattle.tf_journal.specs.Start.{file_of, first_pick, first_sync, IsFirm, IsStart, IsSet, Path, IsAsBefore, IsSame, Untouched, Open}
 
 -- ---- nothing was picked
 
@@ -145,7 +145,7 @@ unpicked {name} {entry} {now} call picks = record {
 }
 
 -- a pick and a load, of a desk that tells as much in the end
-opened_told : {name : List ℕ} {entry mid now : DeskState} {during : Pairs} → OnDisk during entry mid
+pub opened_told : {name : List ℕ} {entry mid now : DeskState} {during : Pairs} → OnDisk during entry mid
     → (IsTrue entry.tells → Picks name entry mid) → (IsTrue entry.tells → LeavesMade name entry mid)
     → Rests mid now → (IsTrue mid.tells → IsSynced mid now)
     → (IsTrue mid.tells → (image text : List ℕ) → mid.crashes mid.content.clock image text → LeftNow mid image text)
@@ -169,7 +169,7 @@ opened_told {name} {entry} {mid} {now} call picks made rests synced only shows r
     now_tells telling = on_disk_told rests.on_disk (mid_tells telling)
 
 -- and a load that met no fault of the disk
-set_told : {name : List ℕ} {entry mid now : DeskState} {during : Pairs} → OnDisk during entry mid → (IsTrue entry.tells → Picks name entry mid)
+pub set_told : {name : List ℕ} {entry mid now : DeskState} {during : Pairs} → OnDisk during entry mid → (IsTrue entry.tells → Picks name entry mid)
     → Rests mid now → (IsTrue mid.tells → HasSynced mid now) → Untouched name entry now → Open name entry now
 set_told {name} {entry} {mid} {now} call picks rests synced untouched = record {
   untouched = untouched;
@@ -185,13 +185,13 @@ set_told {name} {entry} {mid} {now} call picks rests synced untouched = record {
 }
 
 -- what was done before the desk told less
-picks_lowered : {name : List ℕ} {old new : DeskState} (end : DeskState) → Picks name old new → Picks name (told_as end old) (told_as end new)
+pub picks_lowered : {name : List ℕ} {old new : DeskState} (end : DeskState) → Picks name old new → Picks name (told_as end old) (told_as end new)
 picks_lowered end a = record { picked = a.picked; file = a.file; others = a.others; marks = a.marks }
 
 has_synced_told : {old new : DeskState} → HasSynced old new → HasSynced (told_as new old) new
 has_synced_told a = record { moment = a.moment; others = a.others; marks = a.marks; not_before = a.not_before; within = a.within; since = a.since }
 
-synced_told : {old new : DeskState} → IsSynced old new → IsSynced (told_as new old) new
+pub synced_told : {old new : DeskState} → IsSynced old new → IsSynced (told_as new old) new
 synced_told (inl same) = inl same
 synced_told (inr synced) = inr (has_synced_told synced)
 
@@ -271,3 +271,6 @@ open_lowered end falls opened = record {
   untouched = untouched_lowered end falls opened.untouched;
   set = λ told. set_lowered end (opened.set (subst IsTrue opened.untouched.told (falls told)));
 }
+
+pub synced_lowered : {old new : DeskState} (end : DeskState) → HasSynced old new → HasSynced (told_as end old) (told_as end new)
+synced_lowered end a = record { moment = a.moment; others = a.others; marks = a.marks; not_before = a.not_before; within = a.within; since = a.since }

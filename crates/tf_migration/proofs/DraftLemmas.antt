@@ -4,9 +4,9 @@ use Rattle.std.proofs.lemmas.List.{take_more, take-append-drop}
 use Rattle.std.specs.Prelude.{IsTrue}
 use Rattle.std.specs.List.{flat_map}
 use Rattle.tf_desk.specs.Crash.{Pairs}
-use Rattle.tf_desk.specs.State.{DeskState, GoesOn, Passes, anything}
+use Rattle.tf_desk.specs.State.{DeskState, Trusts, GoesOn, Passes, anything}
 use Rattle.tf_desk.proofs.CountLemmas.{rises_later}
-use Rattle.tf_desk.proofs.StateLemmas.{on_disk_told, goes_on}
+use Rattle.tf_desk.proofs.StateLemmas.{on_disk_told, goes_on, trusts_of, trusts_goes_on}
 use Rattle.tf_journal.specs.Adding.{Grows, AddsToDraft, StaysDraft, FailsToAppend}
 use Rattle.tf_journal.specs.Format.{OPEN, title_of, record_of, prefix_of, journal_bytes, recovered, Held, IsOpen, IsDraft, AsDraft, LeavesUnborn, StaysUnborn}
 use Rattle.tf_journal.specs.declared.faults.AppendFault.{AppendFault}
@@ -130,12 +130,12 @@ not_added state start old new held place body item append.Halted within is d lat
 
 -- a draft was begun, and its bodies were to be added and published
 pub write_goes : {K : Type 0} (state : K → DeskState) (held : List (List ℕ)) (is left : Left) (start mid now back : K) → is ≡ left → back ≡ now
-    → GoesOn (LeavesUnborn new_title (state start).shown) (state start) (state mid) → GoesOn (LeavesOnce left held (state mid).shown) (state mid) (state now)
-    → GoesOn (LeavesOnce is held (state start).shown) (state start) (state back)
+    → Trusts (GoesOn (LeavesUnborn new_title (state start).shown)) (state start) (state mid) → GoesOn (LeavesOnce left held (state mid).shown) (state mid) (state now)
+    → Trusts (GoesOn (LeavesOnce is held (state start).shown)) (state start) (state back)
 write_goes {K} state held is left start mid now back so same before call =
-    subst (λ (l : Left). GoesOn (LeavesOnce l held (state start).shown) (state start) (state back)) (sym so)
-    (subst (λ (k : K). GoesOn (LeavesOnce left held (state start).shown) (state start) (state k)) (sym same)
-    (goes_on before call (λ told image text went. (inl went.0, went.1)) (λ told image text went. (went.0, sym before.on_disk.shown ∙ went.1))))
+    subst (λ (l : Left). Trusts (GoesOn (LeavesOnce l held (state start).shown)) (state start) (state back)) (sym so)
+    (subst (λ (k : K). Trusts (GoesOn (LeavesOnce left held (state start).shown)) (state start) (state k)) (sym same)
+    (trusts_goes_on before (trusts_of call.on_disk.tells call) (λ told image text went. (inl went.0, went.1)) (λ told image text went. (went.0, sym before.does.on_disk.shown ∙ went.1))))
 
 pub write_left : {K : Type 0} (state : K → DeskState) (held : List (List ℕ)) (is left : Left) (now back : K) → is ≡ left → back ≡ now → IsLeftSo left held (state now)
     → IsLeftSo is held (state back)
@@ -149,10 +149,10 @@ same_left (append.Full size need) = refl
 same_left append.Halted = refl
 
 -- a draft that wasn't begun left the file unborn
-pub undrafted_left : {K : Type 0} (state : K → DeskState) (start now : K) → KeepsLaws state → StaysUnborn new_title (state start) → IsTrue (state start).tells
-    → GoesOn (LeavesUnborn new_title (state start).shown) (state start) (state now) → StaysUnborn new_title (state now)
-undrafted_left state start now laws stays told goes image left =
-    let told_now : IsTrue (state now).tells = on_disk_told goes.on_disk told in
+pub undrafted_left : {K : Type 0} (state : K → DeskState) (start now : K) → KeepsLaws state → StaysUnborn new_title (state start) → IsTrue (state now).tells
+    → Trusts (GoesOn (LeavesUnborn new_title (state start).shown)) (state start) (state now) → StaysUnborn new_title (state now)
+undrafted_left state start now laws stays told_now goes image left =
+    let told : IsTrue (state start).tells = goes.falls told_now in
     ⊎_elim (λ earlier. stays image earlier) (λ inside. inside.1.0)
-    (left_then (goes.on_disk.crash told) (laws.tells_shown now told_now) (λ moment i text le is. laws.counts_now now moment i text told_now le is)
+    (left_then (goes.does.on_disk.crash told_now) (laws.tells_shown now told_now) (λ moment i text le is. laws.counts_now now moment i text told_now le is)
     (λ i text was. laws.only_now start i text told was) image left)

@@ -46,6 +46,7 @@ fn refuse_old<K: Desk>(alloc: Global, desk: K, fault: OldFault) -> (K, u8)
         → Migrates old new entry (K.state result.0) result.1 }
     ensures causes { (old : List ℕ) (entry : DeskState) → IsUnread old fault entry (K.state desk)
         → HasCauses entry (K.state result.0) result.1 }
+    ensures tells { (K.state result.0).tells ≡ (K.state desk).tells }
 {
     match fault {
         OldFault::Disk => say(desk, DISK_FAULT, DISK_FAILED),
@@ -68,6 +69,7 @@ fn refuse_new<K: Desk>(alloc: Global, desk: K, fault: NewFault) -> (K, u8)
         → IsRead old kept entry mid
         → FailsToMake new kept fault mid (K.state desk)
         → HasCauses entry (K.state result.0) result.1 }
+    ensures tells { (K.state result.0).tells ≡ (K.state desk).tells }
 {
     match fault {
         NewFault::Disk => say(desk, DISK_FAULT, DISK_FAILED),

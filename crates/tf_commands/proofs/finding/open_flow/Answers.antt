@@ -15,7 +15,7 @@ pub returns-in-Err-clause-unfound : goal.returns-in-Err-clause-unfound
 returns-in-Err-clause-unfound g c =
     let D = g.K.Desk in
     let r = c.refuse_book in
-    told_through (λ before. Unfound c.args.name.now c.args.wanted.now before (D.state r.result.desk) r.result.status) r.ensures.said.says.tells
+    told_through (λ before. Unfound c.args.name.now c.args.wanted.now before (D.state r.result.desk) r.result.status) (D.state c.args.desk) r.ensures.said.says.tells
     (unopened_book (r.ensures.unopened c.args.name.now (told_as (D.state c.in-Err.desk) (D.state c.args.desk)) c.in-Err.ensures.unopened.does c.in-Err.ensures.refused))
 
 pub returns-in-Err-clause-causes : goal.returns-in-Err-clause-causes

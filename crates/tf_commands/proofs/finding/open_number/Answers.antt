@@ -23,7 +23,7 @@ returns-in-Err-clause-unfound g c = λ name wanted entry so.
     let D = g.K.Desk in
     let e = c.in-Err.ensures in
     let r = c.refuse_book in
-    told_through (λ before. Unfound name wanted before (D.state r.result.desk) r.result.status) r.ensures.said.says.tells
+    told_through (λ before. Unfound name wanted before (D.state r.result.desk) r.result.status) entry r.ensures.said.says.tells
     (unopened_book (r.ensures.unopened name (told_as (D.state c.in-Err.desk) entry) (rests_untouched (open_lowered (D.state c.in-Err.desk) e.rests.falls so.opened) e.rests.does)
     (λ told. unread_so c.in-Err.fault (book_at entry name) (e.book told))))
 

@@ -16,7 +16,7 @@ returns-in-Some-clause-runs g c = λ name entry so.
     let shelf = c.args.shelf in
     let plan = c.args.machine.plan in
     let named : c.root.result.now.name ≡ detail_name plan = ap (λ (f : Flow). f.name) c.root.ensures.value ∙ ap (λ (p : PlanValue). detail_name p) c.plan.ensures.is in
-    told_still (λ before. Runs _ c.args.request.now _ name _ _ before (D.state c.forbid.result.desk) (plan_tree plan) c.forbid.result.status)
+    told_still (λ before. Runs _ c.args.request.now _ name _ _ before (D.state c.forbid.result.desk) (plan_tree plan) c.forbid.result.status) entry
     (c.forbid.ensures.said.says.tells ∙ ap (λ k. (D.state k).tells) c.close.ensures ∙ so.opened.untouched.told)
     (named_over shelf.elements plan c.root.result.now.name c.in-Some.state named (c.in-Some.ensures shelf.elements d.list)
     (λ told. book_found D.state shelf.place shelf.elements (book_at entry name) d.placed d.legal (so.found told))
@@ -29,7 +29,7 @@ returns-then-list-ge-DETAIL_LIMIT-clause-runs g c = λ name entry so.
     let shelf = c.args.shelf in
     let plan = c.args.machine.plan in
     let named : c.root.result.now.name ≡ detail_name plan = ap (λ (f : Flow). f.name) c.root.ensures.value ∙ ap (λ (p : PlanValue). detail_name p) c.plan.ensures.is in
-    told_still (λ before. Runs _ c.args.request.now _ name _ _ before (D.state c.say_over.result.desk) (plan_tree plan) c.say_over.result.status)
+    told_still (λ before. Runs _ c.args.request.now _ name _ _ before (D.state c.say_over.result.desk) (plan_tree plan) c.say_over.result.status) entry
     (c.say_over.ensures.said.says.tells ∙ ap (λ k. (D.state k).tells) c.close-then-list-ge-DETAIL_LIMIT.ensures ∙ so.opened.untouched.told)
     (too_many shelf.elements plan refl refl
     (λ told. book_found D.state shelf.place shelf.elements (book_at entry name) d.placed d.legal (so.found told))

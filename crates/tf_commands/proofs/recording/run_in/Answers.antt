@@ -15,7 +15,7 @@ returns-in-Ok-clause-runs g c =
     let here = g.met.K.Desk g.world.𝓛 g.world.𝓜 g.world.𝓡 ((λ s x. x), (λ x. x), (λ x. x), λ x. x) in
     let now = c.run_book.result.desk in
     λ name entry so.
-    told_through (λ before. RunsAnew g.P.Performer.gives c.args.request.now _ _ name c.args.shelf.elements c.args.machine.plan before (D.state now) c.run_book.result.status)
+    told_through (λ before. RunsAnew g.P.Performer.gives c.args.request.now _ _ name c.args.shelf.elements c.args.machine.plan before (D.state now) c.run_book.result.status) entry
     c.run_book.ensures.runs.continues.extends.tells
     (ran (begun_promised D.state g.P.Performer.gives c.args.request.now _ _ _ name c.args.shelf.elements c.args.machine.plan (told_as (D.state c.in-Ok.book.journal.desk) entry) c.in-Ok.book (D.state now) c.run_book.result.status
     (c.in-Ok.ensures.begins name entry so) c.run_book.ensures.runs
@@ -31,7 +31,7 @@ pub returns-in-Err-clause-runs : goal.returns-in-Err-clause-runs
 returns-in-Err-clause-runs g c = λ name entry so.
     let D = g.K.Desk in
     let mid = D.state c.in-Err.desk in
-    told_through (λ before. RunsAnew g.P.Performer.gives c.args.request.now _ _ name c.args.shelf.elements c.args.machine.plan before (D.state c.say_unbegun.result.desk) c.say_unbegun.result.status)
+    told_through (λ before. RunsAnew g.P.Performer.gives c.args.request.now _ _ name c.args.shelf.elements c.args.machine.plan before (D.state c.say_unbegun.result.desk) c.say_unbegun.result.status) entry
     c.say_unbegun.ensures.says.says.tells
     (c.say_unbegun.ensures.anew c.args.request.now _ _ name (told_as mid entry) (desk_of c.args.shelf) c.args.shelf.elements c.args.machine.plan (open_lowered mid c.in-Err.ensures.goes.falls so.opened)
     (c.in-Err.ensures.unbegun name entry so) c.in-Err.ensures.fails c.requires.idle)

@@ -21,7 +21,7 @@ pub returns-in-Err-clause-runs : goal.returns-in-Err-clause-runs
 returns-in-Err-clause-runs g c =
     let D = g.K.Desk in
     let r = c.refuse_book in
-    unopened refl (told_through (λ before. Unopened c.args.name.now before (D.state r.result.desk) r.result.status) r.ensures.said.says.tells
+    unopened refl (told_through (λ before. Unopened c.args.name.now before (D.state r.result.desk) r.result.status) (D.state c.args.desk) r.ensures.said.says.tells
     (r.ensures.unopened c.args.name.now (told_as (D.state c.in-Err.desk) (D.state c.args.desk)) c.in-Err.ensures.unopened.does c.in-Err.ensures.refused))
 
 pub returns-in-Err-clause-causes : goal.returns-in-Err-clause-causes

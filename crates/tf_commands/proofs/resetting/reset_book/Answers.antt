@@ -7,7 +7,7 @@ use Rattle.tf_commands.proofs.resetting.reset_book.Goals as goal
 pub returns-in-Ok-clause-resets : goal.returns-in-Ok-clause-resets
 returns-in-Ok-clause-resets g c =
     let D = g.K.Desk in
-    told_through (λ before. ResetsBook c.args.name.now c.args.wanted.now before (D.state c.put_back.result.desk) c.put_back.result.status) c.put_back.ensures.tells
+    told_through (λ before. ResetsBook c.args.name.now c.args.wanted.now before (D.state c.put_back.result.desk) c.put_back.result.status) (D.state c.args.desk) c.put_back.ensures.tells
     (c.put_back.ensures.goes c.args.name.now c.args.wanted.now (told_as (D.state c.in-Ok.book.journal.desk) (D.state c.args.desk)) c.in-Ok.ensures.opened.does c.in-Ok.ensures.holds)
 
 pub returns-in-Ok-clause-causes : goal.returns-in-Ok-clause-causes

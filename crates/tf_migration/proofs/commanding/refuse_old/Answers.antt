@@ -15,7 +15,7 @@ returns-in-NotABook-clause-migrates g c = λ old new entry u.
     let D = g.K.Desk in
     unread_so new u
     (no_book c.in-NotABook.offset c.in-NotABook.byte
-    (λ told. subst (λ (f : OldFault). RefusesOld f (old_at (D.state entry) old)) c.in-NotABook.is (u.refused told)))
+    (λ told. subst (λ (f : OldFault). RefusesOld f (old_at entry old)) c.in-NotABook.is (u.refused told)))
     (c.say_text.ensures (not_a_book c.in-NotABook.offset c.in-NotABook.byte) c.not_a_book_text-text.ensures)
 
 pub returns-in-NotABook-clause-causes : goal.returns-in-NotABook-clause-causes
@@ -25,7 +25,7 @@ returns-in-NotABook-clause-causes g c = λ old entry u.
 pub returns-in-NoFlow-clause-migrates : goal.returns-in-NoFlow-clause-migrates
 returns-in-NoFlow-clause-migrates g c = λ old new entry u.
     let D = g.K.Desk in
-    unread_so new u (no_flow (λ told. subst (λ (f : OldFault). RefusesOld f (old_at (D.state entry) old)) c.in-NoFlow.is (u.refused told))) c.say-in-NoFlow.ensures.concludes
+    unread_so new u (no_flow (λ told. subst (λ (f : OldFault). RefusesOld f (old_at entry old)) c.in-NoFlow.is (u.refused told))) c.say-in-NoFlow.ensures.concludes
 
 pub returns-in-Memory-clause-migrates : goal.returns-in-Memory-clause-migrates
 returns-in-Memory-clause-migrates g c = λ old new entry u.
