@@ -2,7 +2,7 @@
 use Rattle.std.proofs.Common.{◌≡◌, ◌≢◌, ◌⊎◌, ℕ, List, Option, inl, inr, ⊎_elim, arith}
 use Rattle.std.specs.Prelude.{IsTrue, Result, Ok, Err, IfOk, IfErr}
 use Rattle.tf_desk.specs.Crash.{Pairs}
-use Rattle.tf_desk.specs.State.{DeskState, OnDisk, Trusts, Picks, Rests}
+use Rattle.tf_desk.specs.State.{DeskState, told_as, OnDisk, Trusts, Picks, Rests}
 use Rattle.tf_journal.proofs.OpenLemmas.{open_set}
 use Rattle.tf_journal.specs.Start.{Untouched, Open}
 use Rattle.tf_journal.specs.Format.{HasSynced}
@@ -40,12 +40,12 @@ module _ {K : Type 0} (state : K → DeskState) where
 
   -- ---- a book that was opened is shown
 
-  pub shows_whole : (name : List ℕ) (wanted : Option (List ℕ)) (entry : DeskState) (now : K) (status : ℕ) (book : BookValue K)
-      → ((n : List ℕ) (e : DeskState) → Untouched n e (book_desk state book)
-      → RefusesOrStops n e (state now) (history_text (outline book) book.past) SUCCEEDED status)
-      → Untouched name entry (book_desk state book) → HoldsBook name wanted entry book
-      → ShowsBook name wanted entry (state now) status
-  shows_whole name wanted entry now status book shows untouched holds =
+  pub shows_whole : (name : List ℕ) (wanted : Option (List ℕ)) (entry seen now : K) (status : ℕ) (book : BookValue K)
+      → ((n : List ℕ) (e s : K) → Untouched n (told_as (state s) (state e)) (book_desk state book)
+      → RefusesOrStops n (told_as (state s) (state e)) (state now) (history_text (outline book) book.past) SUCCEEDED status)
+      → Untouched name (told_as (state seen) (state entry)) (book_desk state book) → HoldsBook name wanted (told_as (state seen) (state entry)) book
+      → ShowsBook name wanted (told_as (state seen) (state entry)) (state now) status
+  shows_whole name wanted entry seen now status book shows untouched holds =
       ⊎_elim (λ stops. unfound_show (unopened_book (exhausted stops)))
       (λ refuses. shown_whole book.contents book.plan book.past holds refuses)
-      (shows name entry untouched)
+      (shows name entry seen untouched)

@@ -5,7 +5,7 @@ ghost use Rattle.std.specs.List.{AllByRecursion};
 ghost use Rattle.tf_actions.specs.declared.orders.Order.{Order as AnOrder};
 ghost use Rattle.tf_ports.specs.Ports.{IsFresh};
 ghost use Rattle.tf_numbers.specs.Numbers.{Rises};
-ghost use Rattle.tf_desk.specs.State.{DeskState, anything, told_as, Trusts, GoesOn};
+ghost use Rattle.tf_desk.specs.State.{anything, told_as, Trusts, GoesOn};
 ghost use Rattle.tf_flow.specs.Plan.{PlanValue};
 ghost use Rattle.tf_journal.specs.Start.{Untouched, Open};
 ghost use Rattle.tf_machine.specs.Machine.{StandsFor};
@@ -59,10 +59,10 @@ pub fn open<K: Desk>(alloc: Global, mut desk: K, name: &Text) -> Result<Shelf<K>
 
 /// Says why a book couldn't be opened, unless memory ran out.
 pub fn refuse_book<K: Desk>(alloc: Global, mut desk: K, fault: LoadFault) -> Over<K>
-    ensures unopened { (name : List ℕ) (entry : DeskState)
-        → Untouched name entry (K.state desk)
-        → (IsTrue entry.tells → RefusesBook fault (book_at entry name))
-        → Unopened name entry (K.state result.desk) result.status }
+    ensures unopened { (name : List ℕ) (entry seen : K)
+        → Untouched name (told_as (K.state seen) (K.state entry)) (K.state desk)
+        → (IsTrue (K.state seen).tells → RefusesBook fault (book_at (K.state entry) name))
+        → Unopened name (told_as (K.state seen) (K.state entry)) (K.state result.desk) result.status }
     ensures said { HasSaid (K.state desk) (K.state result.desk) result.status }
     ensures failed { result.status ≡ DISK_FAILED → fault ≡ LoadFault.Disk }
 {
@@ -77,9 +77,9 @@ pub fn refuse_book<K: Desk>(alloc: Global, mut desk: K, fault: LoadFault) -> Ove
 
 /// Says that a file is no book.
 fn say_no_book<K: Desk>(alloc: Global, offset: u64, byte: Option<u8>, mut desk: K) -> Over<K>
-    ensures refuses { (name : List ℕ) (entry : DeskState)
-        → Untouched name entry (K.state desk)
-        → RefusesOrStops name entry (K.state result.desk) (not_a_book offset byte) NO_BOOK result.status }
+    ensures refuses { (name : List ℕ) (entry seen : K)
+        → Untouched name (told_as (K.state seen) (K.state entry)) (K.state desk)
+        → RefusesOrStops name (told_as (K.state seen) (K.state entry)) (K.state result.desk) (not_a_book offset byte) NO_BOOK result.status }
     ensures said { HasSaid (K.state desk) (K.state result.desk) result.status }
     ensures sound { result.status ≢ DISK_FAILED }
 {
@@ -96,9 +96,9 @@ fn say_no_book<K: Desk>(alloc: Global, offset: u64, byte: Option<u8>, mut desk: 
 /// Says a command's message, with which it is over.
 pub fn say_over<K: Desk>(message: &[u8], status: u8, mut desk: K) -> Over<K>
     requires apart { (status ≢ UNREAD) × (status ≢ UNSAID) }
-    ensures refuses { (name : List ℕ) (entry : DeskState)
-        → Untouched name entry (K.state desk)
-        → Refuses name entry (K.state result.desk) message.now status result.status }
+    ensures refuses { (name : List ℕ) (entry seen : K)
+        → Untouched name (told_as (K.state seen) (K.state entry)) (K.state desk)
+        → Refuses name (told_as (K.state seen) (K.state entry)) (K.state result.desk) message.now status result.status }
     ensures said { HasSaid (K.state desk) (K.state result.desk) result.status }
     ensures status { (result.status ≡ status) ⊎ (result.status ≡ UNSAID) }
 {
@@ -108,9 +108,9 @@ pub fn say_over<K: Desk>(message: &[u8], status: u8, mut desk: K) -> Over<K>
 
 /// Says that a book holds no flow.
 pub fn say_empty<K: Desk>(desk: K) -> Over<K>
-    ensures refuses { (name : List ℕ) (entry : DeskState)
-        → Untouched name entry (K.state desk)
-        → Refuses name entry (K.state result.desk) no_flow_text FORBIDDEN result.status }
+    ensures refuses { (name : List ℕ) (entry seen : K)
+        → Untouched name (told_as (K.state seen) (K.state entry)) (K.state desk)
+        → Refuses name (told_as (K.state seen) (K.state entry)) (K.state result.desk) no_flow_text FORBIDDEN result.status }
     ensures said { HasSaid (K.state desk) (K.state result.desk) result.status }
     ensures status { (result.status ≡ FORBIDDEN) ⊎ (result.status ≡ UNSAID) }
 {
@@ -119,9 +119,9 @@ pub fn say_empty<K: Desk>(desk: K) -> Over<K>
 
 /// Says that a book holds no flow of this name, unless memory runs out.
 pub fn say_not_there<K: Desk>(alloc: Global, sought: &Name, desk: K) -> Over<K>
-    ensures refuses { (name : List ℕ) (entry : DeskState)
-        → Untouched name entry (K.state desk)
-        → RefusesOrStops name entry (K.state result.desk) (no_flow_named sought.now) FORBIDDEN result.status }
+    ensures refuses { (name : List ℕ) (entry seen : K)
+        → Untouched name (told_as (K.state seen) (K.state entry)) (K.state desk)
+        → RefusesOrStops name (told_as (K.state seen) (K.state entry)) (K.state result.desk) (no_flow_named sought.now) FORBIDDEN result.status }
     ensures said { HasSaid (K.state desk) (K.state result.desk) result.status }
     ensures status { (result.status ≡ FORBIDDEN) ⊎ (result.status ≡ UNSAID) ⊎ (result.status ≡ OUT_OF_MEMORY) }
 {
@@ -137,9 +137,9 @@ pub fn say_not_there<K: Desk>(alloc: Global, sought: &Name, desk: K) -> Over<K>
 
 /// Says that the state of the flow of this name forbids what is asked for, unless memory runs out.
 pub fn forbid<K: Desk>(alloc: Global, named: &Name, state: FlowState, desk: K) -> Over<K>
-    ensures refuses { (name : List ℕ) (entry : DeskState)
-        → Untouched name entry (K.state desk)
-        → RefusesOrStops name entry (K.state result.desk)
+    ensures refuses { (name : List ℕ) (entry seen : K)
+        → Untouched name (told_as (K.state seen) (K.state entry)) (K.state desk)
+        → RefusesOrStops name (told_as (K.state seen) (K.state entry)) (K.state result.desk)
         (state_forbids named.now state) FORBIDDEN result.status }
     ensures said { HasSaid (K.state desk) (K.state result.desk) result.status }
     ensures status { (result.status ≡ FORBIDDEN) ⊎ (result.status ≡ UNSAID) ⊎ (result.status ≡ OUT_OF_MEMORY) }
@@ -156,9 +156,9 @@ pub fn forbid<K: Desk>(alloc: Global, named: &Name, state: FlowState, desk: K) -
 
 /// Says that no hands could be hired, unless memory ran out.
 pub fn say_unhired<K: Desk>(desk: K, fault: PortFault) -> Over<K>
-    ensures refuses { (name : List ℕ) (entry : DeskState)
-        → Untouched name entry (K.state desk)
-        → RefusesOrStops name entry (K.state result.desk) cannot_hire UNHIRED result.status }
+    ensures refuses { (name : List ℕ) (entry seen : K)
+        → Untouched name (told_as (K.state seen) (K.state entry)) (K.state desk)
+        → RefusesOrStops name (told_as (K.state seen) (K.state entry)) (K.state result.desk) cannot_hire UNHIRED result.status }
     ensures said { HasSaid (K.state desk) (K.state result.desk) result.status }
     ensures closes { ClosesWithOrStops (K.state desk).shown cannot_hire UNHIRED
         (K.state result.desk).shown result.status }
@@ -183,13 +183,13 @@ pub fn begin<K: Desk>(
     requires shelf { IsShelf K.state shelf }
     requires place { HasPlaceFor shelf.elements machine.plan }
     requires fresh { StandsFor machine [] }
-    ensures begins { IfOk result (λ book. (name : List ℕ) (entry : DeskState)
-        → IsShelfOf K.state name entry shelf
-        → Begins K.state name (told_as (K.state book.journal.desk) entry)
+    ensures begins { IfOk result (λ book. (name : List ℕ) (entry seen : K)
+        → IsShelfOf K.state name (told_as (K.state seen) (K.state entry)) shelf
+        → Begins K.state name (told_as (K.state book.journal.desk) (K.state entry))
         shelf.elements machine.plan book) }
-    ensures unbegun { IfErr result (λ back. (name : List ℕ) (entry : DeskState)
-        → IsShelfOf K.state name entry shelf
-        → Unbegun name (told_as (K.state back.0) entry)
+    ensures unbegun { IfErr result (λ back. (name : List ℕ) (entry seen : K)
+        → IsShelfOf K.state name (told_as (K.state seen) (K.state entry)) shelf
+        → Unbegun name (told_as (K.state back.0) (K.state entry))
         shelf.elements machine.plan (K.state back.0)) }
     ensures ready { IfOk result (λ book. (book.halt ≡ None) × (book.quiet ≡ quiet)) }
     ensures goes { Trusts (GoesOn anything) (K.state (desk_of shelf)) (K.state (desk_started result)) }
@@ -221,13 +221,13 @@ fn cause_of(fault: BookFault) -> Halt
 /// Says why a new detail couldn't begin, unless memory ran out.
 pub fn say_unbegun<K: Desk, P: Performer>(alloc: Global, mut desk: K, fault: BookFault) -> Over<K>
     ensures anew { (request : Request) (asks : ℕ) (did : List (Option (List AnOrder))) (name : List ℕ)
-        (entry : DeskState) (opened : K) (elements : List Element) (plan : PlanValue)
-        → Open name entry (told_as (K.state desk) (K.state opened))
-        → Unbegun name entry elements plan (K.state desk)
+        (entry seen : K) (opened : K) (elements : List Element) (plan : PlanValue)
+        → Open name (told_as (K.state seen) (K.state entry)) (told_as (K.state desk) (K.state opened))
+        → Unbegun name (told_as (K.state seen) (K.state entry)) elements plan (K.state desk)
         → FailsToBegin K.state elements plan fault opened desk
         → AllByRecursion IsFresh did
         → RunsAnew P.gives request (Rises asks (K.state result.desk).asks) (Some did)
-        name elements plan entry (K.state result.desk) result.status }
+        name elements plan (told_as (K.state seen) (K.state entry)) (K.state result.desk) result.status }
     ensures says { HasSaidHalt (cause_in fault) (K.state desk) (K.state result.desk) result.status }
 {
     let status = say_cause(alloc, cause_of(fault), &mut desk);

@@ -1,7 +1,7 @@
 //! How the details of a book are listed.
 
 ghost use Rattle.std.specs.Prelude.{◌≡◌, ◌≤◌, ℕ, List, IsTrue};
-ghost use Rattle.tf_desk.specs.State.{DeskState, told_as};
+ghost use Rattle.tf_desk.specs.State.{told_as};
 ghost use Rattle.tf_book.specs.Shelf.{desk_of};
 ghost use Rattle.tf_commands.specs.Asking.{HasEachCause, counts_of};
 ghost use Rattle.tf_commands.specs.Begun.{IsShelfOf};
@@ -33,9 +33,9 @@ pub fn list_details<K: Desk>(alloc: Global, name: &Text, desk: K) -> Over<K>
 
 /// Says the lines of a book's details, unless memory runs out.
 fn say_details<K: Desk>(alloc: Global, shelf: Shelf<K>) -> Over<K>
-    ensures lists { (name : List ℕ) (entry : DeskState)
-        → IsShelfOf K.state name entry shelf
-        → ListsDetails name entry (K.state result.desk) result.status }
+    ensures lists { (name : List ℕ) (entry seen : K)
+        → IsShelfOf K.state name (told_as (K.state seen) (K.state entry)) shelf
+        → ListsDetails name (told_as (K.state seen) (K.state entry)) (K.state result.desk) result.status }
     ensures causes { HasEachCause result.status
         (counts_of (K.state (desk_of shelf)) 0 0) (counts_of (K.state result.desk) 0 0) }
     ensures tells { (K.state result.desk).tells ≡ (K.state (desk_of shelf)).tells }

@@ -1,7 +1,7 @@
 //! The details of a book: which one has a name, and which one a command asks for.
 
 ghost use Rattle.std.specs.Prelude.{◌≡◌, ◌≤◌, ◌<◌, ◌+◌, ℕ, List, Option, false, length, position, None, Some, IfOk, IfErr, IfSome, IsTrue};
-ghost use Rattle.tf_desk.specs.State.{DeskState, told_as, Trusts};
+ghost use Rattle.tf_desk.specs.State.{told_as, Trusts};
 ghost use Rattle.tf_details.specs.Elements.{Element, details};
 ghost use Rattle.tf_book.specs.Shelf.{desk_of, is_volatile};
 ghost use Rattle.tf_book.specs.Book.{listed};
@@ -95,16 +95,16 @@ fn open_asked<K: Desk>(
     wanted: &Option<Name>,
 ) -> Result<Book<K>, Over<K>>
     requires kept { is_volatile shelf.place ≡ false }
-    ensures opened { IfOk result (λ book. (name : List ℕ) (entry : DeskState)
-        → Open name entry (K.state (desk_of shelf))
-        → Open name (told_as (K.state book.journal.desk) entry) (K.state book.journal.desk)) }
-    ensures holds { IfOk result (λ book. (name : List ℕ) (entry : DeskState)
-        → IsShelfOf K.state name entry shelf
-        → HoldsBook name wanted.now (told_as (K.state book.journal.desk) entry) book) }
+    ensures opened { IfOk result (λ book. (name : List ℕ) (entry seen : K)
+        → Open name (told_as (K.state seen) (K.state entry)) (K.state (desk_of shelf))
+        → Open name (told_as (K.state book.journal.desk) (K.state entry)) (K.state book.journal.desk)) }
+    ensures holds { IfOk result (λ book. (name : List ℕ) (entry seen : K)
+        → IsShelfOf K.state name (told_as (K.state seen) (K.state entry)) shelf
+        → HoldsBook name wanted.now (told_as (K.state book.journal.desk) (K.state entry)) book) }
     ensures ready { IfOk result IsReadyBook }
-    ensures unfound { IfErr result (λ over. (name : List ℕ) (entry : DeskState)
-        → IsShelfOf K.state name entry shelf
-        → Unfound name wanted.now (told_as (K.state over.desk) entry) (K.state over.desk) over.status) }
+    ensures unfound { IfErr result (λ over. (name : List ℕ) (entry seen : K)
+        → IsShelfOf K.state name (told_as (K.state seen) (K.state entry)) shelf
+        → Unfound name wanted.now (told_as (K.state over.desk) (K.state entry)) (K.state over.desk) over.status) }
     ensures falls { IsTrue (K.state (desk_found result)).tells → IsTrue (K.state (desk_of shelf)).tells }
     ensures asks { (K.state (desk_of shelf)).asks ≤ (K.state (desk_found result)).asks }
     ensures causes { IfErr result (λ over. HasEachCause over.status
@@ -120,16 +120,16 @@ fn open_asked<K: Desk>(
 fn open_number<K: Desk>(alloc: Global, shelf: Shelf<K>, number: u16) -> Result<Book<K>, Over<K>>
     requires shelf { IsShelf K.state shelf }
     requires within { number < length (details shelf.elements) }
-    ensures opened { IfOk result (λ book. (name : List ℕ) (entry : DeskState)
-        → Open name entry (K.state (desk_of shelf))
-        → Open name (told_as (K.state book.journal.desk) entry) (K.state book.journal.desk)) }
-    ensures holds { IfOk result (λ book. (name : List ℕ) (wanted : Option (List ℕ)) (entry : DeskState)
-        → IsShelfOf K.state name entry shelf → IsAskedFor wanted shelf.elements number
-        → HoldsBook name wanted (told_as (K.state book.journal.desk) entry) book) }
+    ensures opened { IfOk result (λ book. (name : List ℕ) (entry seen : K)
+        → Open name (told_as (K.state seen) (K.state entry)) (K.state (desk_of shelf))
+        → Open name (told_as (K.state book.journal.desk) (K.state entry)) (K.state book.journal.desk)) }
+    ensures holds { IfOk result (λ book. (name : List ℕ) (wanted : Option (List ℕ)) (entry seen : K)
+        → IsShelfOf K.state name (told_as (K.state seen) (K.state entry)) shelf → IsAskedFor wanted shelf.elements number
+        → HoldsBook name wanted (told_as (K.state book.journal.desk) (K.state entry)) book) }
     ensures ready { IfOk result IsReadyBook }
-    ensures unfound { IfErr result (λ over. (name : List ℕ) (wanted : Option (List ℕ)) (entry : DeskState)
-        → IsShelfOf K.state name entry shelf
-        → Unfound name wanted (told_as (K.state over.desk) entry) (K.state over.desk) over.status) }
+    ensures unfound { IfErr result (λ over. (name : List ℕ) (wanted : Option (List ℕ)) (entry seen : K)
+        → IsShelfOf K.state name (told_as (K.state seen) (K.state entry)) shelf
+        → Unfound name wanted (told_as (K.state over.desk) (K.state entry)) (K.state over.desk) over.status) }
     ensures falls { IsTrue (K.state (desk_found result)).tells → IsTrue (K.state (desk_of shelf)).tells }
     ensures asks { (K.state (desk_of shelf)).asks ≤ (K.state (desk_found result)).asks }
     ensures causes { IfErr result (λ over. HasEachCause over.status
@@ -147,9 +147,9 @@ fn open_number<K: Desk>(alloc: Global, shelf: Shelf<K>, number: u16) -> Result<B
 /// Says that a book doesn't hold the flow that is asked for.
 fn say_none<K: Desk>(alloc: Global, shelf: Shelf<K>, wanted: &Option<Name>) -> Over<K>
     requires none { IsNumberAsked wanted.now shelf.elements None }
-    ensures unfound { (name : List ℕ) (entry : DeskState)
-        → IsShelfOf K.state name entry shelf
-        → Unfound name wanted.now entry (K.state result.desk) result.status }
+    ensures unfound { (name : List ℕ) (entry seen : K)
+        → IsShelfOf K.state name (told_as (K.state seen) (K.state entry)) shelf
+        → Unfound name wanted.now (told_as (K.state seen) (K.state entry)) (K.state result.desk) result.status }
     ensures tells { (K.state result.desk).tells ≡ (K.state (desk_of shelf)).tells }
     ensures asks { (K.state (desk_of shelf)).asks ≤ (K.state result.desk).asks }
     ensures causes { HasEachCause result.status

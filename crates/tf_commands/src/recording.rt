@@ -1,7 +1,7 @@
 //! A run that is recorded in a book: it begins as a new detail.
 
 ghost use Rattle.std.specs.Prelude.{◌≡◌, ◌≤◌, ◌⊎◌, ℕ, List, [], map, Some, false, vec_len, IsTrue};
-ghost use Rattle.tf_desk.specs.State.{DeskState, told_as};
+ghost use Rattle.tf_desk.specs.State.{told_as};
 ghost use Rattle.std.specs.List.{AllByRecursion};
 ghost use Rattle.tf_flow.specs.Plan.{plan_tree};
 ghost use Rattle.tf_ports.specs.Ports.{gives_by, IsFresh, wanted as number_of};
@@ -102,11 +102,11 @@ fn run_anew<K: Desk + Send, W: Crew, R: Threads + Wait + Sync>(
     requires fresh { StandsFor machine [] }
     requires kept { is_volatile shelf.place ≡ false }
     requires few { AreHands request.now.want }
-    ensures runs { (name : List ℕ) (entry : DeskState)
-        → IsShelfOf K.state name entry shelf
+    ensures runs { (name : List ℕ) (entry seen : K)
+        → IsShelfOf K.state name (told_as (K.state seen) (K.state entry)) shelf
         → Runs (gives_by W.Hand.gives W.Far.gives request.now.want) request.now
         (WasAsked (K.state (desk_of shelf)) (K.state result.desk)) name
-        (W.told crew.old) (W.told crew.new) (told_as (K.state result.desk) entry) (K.state result.desk)
+        (W.told crew.old) (W.told crew.new) (told_as (K.state result.desk) (K.state entry)) (K.state result.desk)
         (plan_tree machine.plan) result.status }
     ensures hires { HiresAtMost request.now.want (W.told crew.old) (W.told crew.new) }
     ensures falls { IsTrue (K.state result.desk).tells → IsTrue (K.state (desk_of shelf)).tells }
@@ -145,13 +145,13 @@ fn hire_and_run<K: Desk + Send, W: Crew, R: Threads + Wait + Sync>(
     requires shelf { IsShelf K.state shelf }
     requires place { HasPlaceFor shelf.elements machine.plan }
     requires few { AreHands request.now.want }
-    ensures runs { (name : List ℕ) (entry : DeskState)
-        → IsShelfOf K.state name entry shelf
-        → (Unhired name (told_as (K.state result.desk) entry) (K.state result.desk) (W.told crew.old) (W.told crew.new) result.status
+    ensures runs { (name : List ℕ) (entry seen : K)
+        → IsShelfOf K.state name (told_as (K.state seen) (K.state entry)) shelf
+        → (Unhired name (told_as (K.state result.desk) (K.state entry)) (K.state result.desk) (W.told crew.old) (W.told crew.new) result.status
         ⊎ (Hires request.now.want (W.told crew.old) (W.told crew.new)
         × RunsAnew (gives_by W.Hand.gives W.Far.gives request.now.want) request.now
         (WasAsked (K.state (desk_of shelf)) (K.state result.desk)) (W.told crew.new).back
-        name shelf.elements machine.plan (told_as (K.state result.desk) entry) (K.state result.desk) result.status)) }
+        name shelf.elements machine.plan (told_as (K.state result.desk) (K.state entry)) (K.state result.desk) result.status)) }
     ensures hires { HiresAtMost request.now.want (W.told crew.old) (W.told crew.new) }
     ensures falls { IsTrue (K.state result.desk).tells → IsTrue (K.state (desk_of shelf)).tells }
     ensures asks { (K.state (desk_of shelf)).asks ≤ (K.state result.desk).asks }
@@ -191,11 +191,11 @@ fn run_in<K: Desk + Send, P: Performer + Send, R: Threads + Wait + Sync>(
     requires all { vec_len hands.old ≡ number_of request.now.want }
     requires few { AreHands request.now.want }
     requires idle { AllByRecursion IsFresh (map P.did hands.old.items) }
-    ensures runs { (name : List ℕ) (entry : DeskState)
-        → IsShelfOf K.state name entry shelf
+    ensures runs { (name : List ℕ) (entry seen : K)
+        → IsShelfOf K.state name (told_as (K.state seen) (K.state entry)) shelf
         → RunsAnew P.gives request.now (WasAsked (K.state (desk_of shelf)) (K.state result.desk))
         (Some (map P.did hands.new.items)) name shelf.elements machine.plan
-        (told_as (K.state result.desk) entry) (K.state result.desk) result.status }
+        (told_as (K.state result.desk) (K.state entry)) (K.state result.desk) result.status }
     ensures falls { IsTrue (K.state result.desk).tells → IsTrue (K.state (desk_of shelf)).tells }
     ensures asks { (K.state (desk_of shelf)).asks ≤ (K.state result.desk).asks }
     ensures causes { HasEachCause result.status (counts_of (K.state (desk_of shelf)) 0 0)

@@ -1,7 +1,7 @@
 //! How a flow that was reverted is put back, to be run anew.
 
 ghost use Rattle.std.specs.Prelude.{◌≡◌, ◌≢◌, ◌≤◌, ℕ, List, Option, None, Some, false, IsSome, IsTrue};
-ghost use Rattle.tf_desk.specs.State.{DeskState, told_as};
+ghost use Rattle.tf_desk.specs.State.{told_as};
 ghost use Rattle.tf_book.specs.Book.{BookValue};
 ghost use Rattle.tf_commands.specs.Books.{ResetsBook};
 ghost use Rattle.tf_commands.specs.Asking.{HasEachCause, counts_of};
@@ -38,10 +38,10 @@ fn put_back<K: Desk>(alloc: Global, mut book: Book<K>) -> Over<K>
     requires sound { book.halt ≡ None }
     requires speaks { book.quiet ≡ false }
     requires kept { book.journal.volatile ≡ false }
-    ensures goes { (name : List ℕ) (wanted : Option (List ℕ)) (entry : DeskState)
-        → Open name entry (K.state book.journal.desk)
-        → HoldsBook name wanted entry book
-        → ResetsBook name wanted entry (K.state result.desk) result.status }
+    ensures goes { (name : List ℕ) (wanted : Option (List ℕ)) (entry seen : K)
+        → Open name (told_as (K.state seen) (K.state entry)) (K.state book.journal.desk)
+        → HoldsBook name wanted (told_as (K.state seen) (K.state entry)) book
+        → ResetsBook name wanted (told_as (K.state seen) (K.state entry)) (K.state result.desk) result.status }
     ensures tells { (K.state result.desk).tells ≡ (K.state book.journal.desk).tells }
     ensures asks { (K.state book.journal.desk).asks ≤ (K.state result.desk).asks }
     ensures causes { HasEachCause result.status (counts_of (K.state book.journal.desk) 0 0)

@@ -1,7 +1,7 @@
 //! A run that goes on from the history which a book holds.
 
 ghost use Rattle.std.specs.Prelude.{◌≡◌, ◌≢◌, ◌≤◌, ℕ, List, [], Option, false, None, Some, IsTrue};
-ghost use Rattle.tf_desk.specs.State.{DeskState, told_as};
+ghost use Rattle.tf_desk.specs.State.{told_as};
 ghost use Rattle.tf_book.specs.Book.{BookValue, flow_state};
 ghost use Rattle.tf_model.specs.Steps.{has_ended};
 ghost use Rattle.tf_commands.specs.Asking.{AreHands, HasEachCause, WasAsked, counts_of};
@@ -66,12 +66,12 @@ fn go_on<K: Desk + Send, W: Crew, R: Threads + Wait + Sync>(
     requires spoken { request.now.quiet ≡ false }
     requires few { AreHands request.now.want }
     requires kept { book.journal.volatile ≡ false }
-    ensures goes { (name : List ℕ) (wanted : Option (List ℕ)) (entry : DeskState)
-        → Open name entry (K.state book.journal.desk)
-        → HoldsBook name wanted entry book
+    ensures goes { (name : List ℕ) (wanted : Option (List ℕ)) (entry seen : K)
+        → Open name (told_as (K.state seen) (K.state entry)) (K.state book.journal.desk)
+        → HoldsBook name wanted (told_as (K.state seen) (K.state entry)) book
         → GoesFurther (gives_by W.Hand.gives W.Far.gives request.now.want) request.now
         (WasAsked (K.state book.journal.desk) (K.state result.desk))
-        name entry book (W.told crew.old) (W.told crew.new) (K.state result.desk) result.status }
+        name (told_as (K.state seen) (K.state entry)) book (W.told crew.old) (W.told crew.new) (K.state result.desk) result.status }
     ensures hires { HiresAtMost request.now.want (W.told crew.old) (W.told crew.new) }
     ensures tells { (K.state result.desk).tells ≡ (K.state book.journal.desk).tells }
     ensures asks { (K.state book.journal.desk).asks ≤ (K.state result.desk).asks }
@@ -120,12 +120,12 @@ fn hire_and_go_on<K: Desk + Send, W: Crew, R: Threads + Wait + Sync>(
     requires few { AreHands request.now.want }
     requires kept { book.journal.volatile ≡ false }
     requires going { has_ended (flow_state book) ≡ false }
-    ensures goes { (name : List ℕ) (wanted : Option (List ℕ)) (entry : DeskState)
-        → Open name entry (K.state book.journal.desk)
-        → HoldsBook name wanted entry book
+    ensures goes { (name : List ℕ) (wanted : Option (List ℕ)) (entry seen : K)
+        → Open name (told_as (K.state seen) (K.state entry)) (K.state book.journal.desk)
+        → HoldsBook name wanted (told_as (K.state seen) (K.state entry)) book
         → GoesFurther (gives_by W.Hand.gives W.Far.gives request.now.want) request.now
         (WasAsked (K.state book.journal.desk) (K.state result.desk))
-        name entry book (W.told crew.old) (W.told crew.new) (K.state result.desk) result.status }
+        name (told_as (K.state seen) (K.state entry)) book (W.told crew.old) (W.told crew.new) (K.state result.desk) result.status }
     ensures hires { HiresAtMost request.now.want (W.told crew.old) (W.told crew.new) }
     ensures tells { (K.state result.desk).tells ≡ (K.state book.journal.desk).tells }
     ensures asks { (K.state book.journal.desk).asks ≤ (K.state result.desk).asks }

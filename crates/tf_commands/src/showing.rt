@@ -1,7 +1,7 @@
 //! How a flow of a book is shown: the lines of its whole history, and the table.
 
 ghost use Rattle.std.specs.Prelude.{◌≡◌, ◌≤◌, ◌⊎◌, ℕ, List, IsTrue};
-ghost use Rattle.tf_desk.specs.State.{DeskState, told_as};
+ghost use Rattle.tf_desk.specs.State.{told_as};
 ghost use Rattle.tf_book.specs.Book.{outline};
 ghost use Rattle.tf_book.specs.SessionInvariant.{history_text};
 ghost use Rattle.tf_commands.specs.Books.{RefusesOrStops, ShowsBook, HasSaid};
@@ -35,9 +35,9 @@ pub fn show_book<K: Desk>(alloc: Global, name: &Text, wanted: &Option<Name>, des
 
 /// Says the lines of a book's history and the table, unless memory runs out.
 fn say_whole<K: Desk>(book: Book<K>) -> Over<K>
-    ensures shows { (name : List ℕ) (entry : DeskState)
-        → Untouched name entry (K.state book.journal.desk)
-        → RefusesOrStops name entry (K.state result.desk)
+    ensures shows { (name : List ℕ) (entry seen : K)
+        → Untouched name (told_as (K.state seen) (K.state entry)) (K.state book.journal.desk)
+        → RefusesOrStops name (told_as (K.state seen) (K.state entry)) (K.state result.desk)
         (history_text (outline book) book.past) SUCCEEDED result.status }
     ensures said { HasSaid (K.state book.journal.desk) (K.state result.desk) result.status }
     ensures status { (result.status ≡ SUCCEEDED) ⊎ (result.status ≡ UNSAID) ⊎ (result.status ≡ OUT_OF_MEMORY) }

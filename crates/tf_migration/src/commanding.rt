@@ -1,7 +1,7 @@
 //! A whole migration.
 ghost use Rattle.std.specs.Prelude.{◌≡◌, ◌≢◌, ◌⊎◌, ℕ, List, IsTrue, IfOk};
 ghost use Rattle.tf_numbers.specs.Numbers.{Rises};
-ghost use Rattle.tf_desk.specs.State.{DeskState, told_as};
+ghost use Rattle.tf_desk.specs.State.{told_as};
 ghost use Rattle.tf_journal.specs.Format.{unborn};
 ghost use Rattle.tf_migration.specs.Migrates.{Migrates, HasCauses, Concludes, IsBookOfFlow, IsComplete, old_at, new_at};
 ghost use Rattle.tf_migration.specs.Reading.{IsUnread, IsRead};
@@ -42,10 +42,10 @@ fn say_text<K: Desk>(desk: K, text: Result<Vec<u8>, Memory>, status: u8) -> (K, 
 
 /// Says why the old book gave no flow, unless memory ran out.
 fn refuse_old<K: Desk>(alloc: Global, desk: K, fault: OldFault) -> (K, u8)
-    ensures migrates { (old new : List ℕ) (entry : DeskState) → IsUnread old fault entry (K.state desk)
-        → Migrates old new entry (K.state result.0) result.1 }
-    ensures causes { (old : List ℕ) (entry : DeskState) → IsUnread old fault entry (K.state desk)
-        → HasCauses entry (K.state result.0) result.1 }
+    ensures migrates { (old new : List ℕ) (entry seen : K) → IsUnread old fault (told_as (K.state seen) (K.state entry)) (K.state desk)
+        → Migrates old new (told_as (K.state seen) (K.state entry)) (K.state result.0) result.1 }
+    ensures causes { (old : List ℕ) (entry seen : K) → IsUnread old fault (told_as (K.state seen) (K.state entry)) (K.state desk)
+        → HasCauses (told_as (K.state seen) (K.state entry)) (K.state result.0) result.1 }
     ensures tells { (K.state result.0).tells ≡ (K.state desk).tells }
 {
     match fault {
@@ -61,14 +61,14 @@ fn refuse_old<K: Desk>(alloc: Global, desk: K, fault: OldFault) -> (K, u8)
 
 /// Says why the new book wasn't made, unless memory ran out.
 fn refuse_new<K: Desk>(alloc: Global, desk: K, fault: NewFault) -> (K, u8)
-    ensures migrates { (old new : List ℕ) (kept : List (List ℕ)) (entry mid : DeskState)
-        → IsRead old kept entry mid
-        → FailsToMake new kept fault mid (K.state desk)
-        → Migrates old new entry (K.state result.0) result.1 }
-    ensures causes { (old new : List ℕ) (kept : List (List ℕ)) (entry mid : DeskState)
-        → IsRead old kept entry mid
-        → FailsToMake new kept fault mid (K.state desk)
-        → HasCauses entry (K.state result.0) result.1 }
+    ensures migrates { (old new : List ℕ) (kept : List (List ℕ)) (entry mid seen : K)
+        → IsRead old kept (told_as (K.state seen) (K.state entry)) (told_as (K.state seen) (K.state mid))
+        → FailsToMake new kept fault (told_as (K.state seen) (K.state mid)) (K.state desk)
+        → Migrates old new (told_as (K.state seen) (K.state entry)) (K.state result.0) result.1 }
+    ensures causes { (old new : List ℕ) (kept : List (List ℕ)) (entry mid seen : K)
+        → IsRead old kept (told_as (K.state seen) (K.state entry)) (told_as (K.state seen) (K.state mid))
+        → FailsToMake new kept fault (told_as (K.state seen) (K.state mid)) (K.state desk)
+        → HasCauses (told_as (K.state seen) (K.state entry)) (K.state result.0) result.1 }
     ensures tells { (K.state result.0).tells ≡ (K.state desk).tells }
 {
     match fault {
@@ -85,10 +85,10 @@ fn refuse_new<K: Desk>(alloc: Global, desk: K, fault: NewFault) -> (K, u8)
 /// Makes the new book of the bodies of a flow that was read, and says how many entries it has. The message is made
 /// first: where memory runs out for it, nothing was written.
 fn carry_over<K: Desk>(alloc: Global, desk: K, new: &Text, bodies: &[Body]) -> (K, u8)
-    ensures migrates { (old : List ℕ) (entry : DeskState) → IsRead old bodies.now entry (K.state desk)
-        → Migrates old new.now (told_as (K.state result.0) entry) (K.state result.0) result.1 }
-    ensures causes { (old : List ℕ) (entry : DeskState) → IsRead old bodies.now entry (K.state desk)
-        → HasCauses (told_as (K.state result.0) entry) (K.state result.0) result.1 }
+    ensures migrates { (old : List ℕ) (entry seen : K) → IsRead old bodies.now (told_as (K.state seen) (K.state entry)) (K.state desk)
+        → Migrates old new.now (told_as (K.state result.0) (K.state entry)) (K.state result.0) result.1 }
+    ensures causes { (old : List ℕ) (entry seen : K) → IsRead old bodies.now (told_as (K.state seen) (K.state entry)) (K.state desk)
+        → HasCauses (told_as (K.state result.0) (K.state entry)) (K.state result.0) result.1 }
     ensures falls { IsTrue (K.state result.0).tells → IsTrue (K.state desk).tells }
 {
     let entries = bodies.len().saturating_sub(1) as u64;

@@ -1,6 +1,6 @@
 //! How a book of several flows is made of bodies, whole or not at all.
 ghost use Rattle.std.specs.Prelude.{◌≡◌, ℕ, List, [], true, IsTrue, IfErr, OnOk};
-ghost use Rattle.tf_desk.specs.State.{DeskState, bytes_now, told_as, Trusts, GoesOn};
+ghost use Rattle.tf_desk.specs.State.{bytes_now, told_as, Trusts, GoesOn};
 ghost use Rattle.tf_journal.specs.Format.{is_unborn, LeavesUnborn, StaysUnborn};
 ghost use Rattle.tf_journal.specs.declared.title.Title.TheVariants.{Book2 as new_title};
 ghost use Rattle.tf_migration.specs.Writing.{LeavesOnce, IsLeftSo, IsDraftOf, FailsToAdd, left_added, desk_written, left_written, unmade_by, FailsToWrite, Makes, IsPicked};
@@ -86,8 +86,8 @@ fn write<K: Desk>(alloc: Global, desk: K, bodies: &[Body]) -> Result<K, (K, NewF
 
 /// Makes a book with these bodies in the picked file, if it is unborn.
 fn create<K: Desk>(alloc: Global, desk: K, bodies: &[Body]) -> Result<K, (K, NewFault)>
-    ensures makes { (name : List ℕ) (entry : DeskState) → IsPicked name entry (K.state desk)
-        → Makes K.state name bodies.now (told_as (K.state (desk_written result)) entry) result }
+    ensures makes { (name : List ℕ) (entry seen : K) → IsPicked name (told_as (K.state seen) (K.state entry)) (K.state desk)
+        → Makes K.state name bodies.now (told_as (K.state (desk_written result)) (K.state entry)) result }
     ensures falls { IsTrue (K.state (desk_written result)).tells → IsTrue (K.state desk).tells }
 {
     match Journal::load(alloc, desk, Title::Book2) {

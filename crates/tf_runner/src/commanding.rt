@@ -1,5 +1,6 @@
 //! The command that lets conductors work on a board.
-ghost use Rattle.std.specs.Prelude.{◌≡◌, ◌≢◌, ◌≤◌, ℕ, List, [], length, vec_capacity, vec_len};
+ghost use Rattle.std.specs.Prelude.{◌≡◌, ◌≢◌, ◌≤◌, ℕ, List, [], length, vec_capacity, vec_len, IsTrue};
+ghost use Rattle.tf_desk.specs.State.{told_as};
 ghost use Rattle.std.specs.List.{All};
 ghost use Rattle.std.specs.Arc.{arc_value};
 ghost use Rattle.tf_board.specs.Board.{IsOpened, IsReadyBoard};
@@ -46,11 +47,14 @@ pub fn conduct_command<K: Desk + Send, S: Sources, W: Crew, R: Threads + Wait + 
     // each job's run may have ended by the files as the sources then tell them, what was shown, why the board was halted, what it
     // has, and what a crash may leave.
     ensures conducts { Conducts W.Hand.gives (S.contents sources.new) (W.told crew.old) (W.told crew.new) name.now
-        word.now hands (K.state desk) (K.state result.0) result.1 }
+        word.now hands (told_as (K.state result.0) (K.state desk)) (K.state result.0) result.1 }
 
     // A file can't be read, the disk fails, a text can't be said and no hand is hired only where the count of such faults
     // rose; no count falls, and nobody is asked for a stop.
-    ensures causes { HasCauses (K.state desk) (K.state result.0) result.1 }
+    ensures causes { HasCauses (told_as (K.state result.0) (K.state desk)) (K.state result.0) result.1 }
+
+    // What the desk tells behind the command it told before it.
+    ensures falls { IsTrue (K.state result.0).tells → IsTrue (K.state desk).tells }
     ensures unread { result.1 ≡ UNREAD → Rises (S.faults sources.old) (S.faults sources.new) }
     ensures unhired { result.1 ≡ UNHIRED → Rises (W.faults crew.old) (W.faults crew.new) }
     ensures no_fall { (S.faults sources.old ≤ S.faults sources.new) × (W.faults crew.old ≤ W.faults crew.new) }
@@ -74,11 +78,11 @@ fn read_and_conduct<K: Desk + Send, S: Sources, W: Crew, R: Threads + Wait + Syn
     requires short { length word.now ≤ 61 }
     requires many { (1 ≤ hands) × (hands ≤ 64) }
     requires ready { IsReadyBoard board }
-    ensures conducts { (name : List ℕ) (entry : K) → IsOpened K.state name (K.state entry) board
+    ensures conducts { (name : List ℕ) (entry seen : K) → IsOpened K.state name (told_as (K.state seen) (K.state entry)) board
         → Conducts W.Hand.gives (S.contents sources.new) (W.told crew.old) (W.told crew.new) name word.now hands
-        (K.state entry) (K.state result.0) result.1 }
-    ensures causes { (name : List ℕ) (entry : K) → IsOpened K.state name (K.state entry) board
-        → HasCauses (K.state entry) (K.state result.0) result.1 }
+        (told_as (K.state seen) (K.state entry)) (K.state result.0) result.1 }
+    ensures causes { (name : List ℕ) (entry seen : K) → IsOpened K.state name (told_as (K.state seen) (K.state entry)) board
+        → HasCauses (told_as (K.state seen) (K.state entry)) (K.state result.0) result.1 }
     ensures unread { result.1 ≡ UNREAD → Rises (S.faults sources.old) (S.faults sources.new) }
     ensures unhired { result.1 ≡ UNHIRED → Rises (W.faults crew.old) (W.faults crew.new) }
     ensures no_fall { (S.faults sources.old ≤ S.faults sources.new) × (W.faults crew.old ≤ W.faults crew.new) }
@@ -106,11 +110,11 @@ fn prepare_and_conduct<K: Desk + Send, W: Crew, R: Threads + Wait + Sync>(
     requires ready { IsReadyBoard board }
     requires have { HaveFiles board.past files.items }
     ensures conducts { (contents : Contents) → AreReadFrom contents files.items
-        → (name : List ℕ) (entry : K) → IsOpened K.state name (K.state entry) board
+        → (name : List ℕ) (entry seen : K) → IsOpened K.state name (told_as (K.state seen) (K.state entry)) board
         → Conducts W.Hand.gives contents (W.told crew.old) (W.told crew.new) name word.now hands
-        (K.state entry) (K.state result.0) result.1 }
-    ensures causes { (name : List ℕ) (entry : K) → IsOpened K.state name (K.state entry) board
-        → HasCauses (K.state entry) (K.state result.0) result.1 }
+        (told_as (K.state seen) (K.state entry)) (K.state result.0) result.1 }
+    ensures causes { (name : List ℕ) (entry seen : K) → IsOpened K.state name (told_as (K.state seen) (K.state entry)) board
+        → HasCauses (told_as (K.state seen) (K.state entry)) (K.state result.0) result.1 }
     ensures apart { result.1 ≢ UNREAD }
     ensures unhired { result.1 ≡ UNHIRED → Rises (W.faults crew.old) (W.faults crew.new) }
     ensures no_fall { W.faults crew.old ≤ W.faults crew.new }
@@ -139,11 +143,11 @@ fn hire_and_conduct<K: Desk + Send, W: Crew, R: Threads + Wait + Sync>(
     requires ready { IsReadyBoard board }
     requires have { HaveFiles board.past (arc_value ready.files).items }
     ensures conducts { (contents : Contents) → AreReadFrom contents (arc_value ready.files).items
-        → (name : List ℕ) (entry : K) → IsOpened K.state name (K.state entry) board
+        → (name : List ℕ) (entry seen : K) → IsOpened K.state name (told_as (K.state seen) (K.state entry)) board
         → Conducts W.Hand.gives contents (W.told crew.old) (W.told crew.new) name word.now hands
-        (K.state entry) (K.state result.0) result.1 }
-    ensures causes { (name : List ℕ) (entry : K) → IsOpened K.state name (K.state entry) board
-        → HasCauses (K.state entry) (K.state result.0) result.1 }
+        (told_as (K.state seen) (K.state entry)) (K.state result.0) result.1 }
+    ensures causes { (name : List ℕ) (entry seen : K) → IsOpened K.state name (told_as (K.state seen) (K.state entry)) board
+        → HasCauses (told_as (K.state seen) (K.state entry)) (K.state result.0) result.1 }
     ensures apart { result.1 ≢ UNREAD }
     ensures unhired { result.1 ≡ UNHIRED → Rises (W.faults crew.old) (W.faults crew.new) }
     ensures no_fall { W.faults crew.old ≤ W.faults crew.new }
@@ -191,10 +195,10 @@ fn conduct_with<K: Desk + Send, P: Performer + Send, R: Threads + Wait + Sync>(
     requires ready { IsReadyBoard board }
     requires have { HaveFiles board.past (arc_value ready.files).items }
     ensures works { (contents : Contents) → AreReadFrom contents (arc_value ready.files).items
-        → (name : List ℕ) (entry : K) → IsOpened K.state name (K.state entry) board
-        → WorksOff P.gives contents name word.now count (K.state entry) (K.state result.desk) result.status }
-    ensures causes { (name : List ℕ) (entry : K) → IsOpened K.state name (K.state entry) board
-        → HasCauses (K.state entry) (K.state result.desk) result.status }
+        → (name : List ℕ) (entry seen : K) → IsOpened K.state name (told_as (K.state seen) (K.state entry)) board
+        → WorksOff P.gives contents name word.now count (told_as (K.state seen) (K.state entry)) (K.state result.desk) result.status }
+    ensures causes { (name : List ℕ) (entry seen : K) → IsOpened K.state name (told_as (K.state seen) (K.state entry)) board
+        → HasCauses (told_as (K.state seen) (K.state entry)) (K.state result.desk) result.status }
     ensures apart { (result.status ≢ UNREAD) × (result.status ≢ UNHIRED) }
     ensures back { vec_len result.hands ≡ count }
 {

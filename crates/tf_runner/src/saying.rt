@@ -1,5 +1,6 @@
 //! What is said of the calls of conductors, and the end of their command.
 ghost use Rattle.std.specs.Prelude.{◌≡◌, ◌≢◌, ℕ, List, Option, Some, IfOk};
+ghost use Rattle.tf_desk.specs.State.{told_as};
 ghost use Rattle.tf_board.specs.Does.{Concludes};
 ghost use Rattle.tf_board.specs.declared.commands.Command.{Command};
 ghost use Rattle.tf_report.specs.declared.statuses.TheConstants.{DISK_FAILED, UNHIRED, UNREAD, UNSAID};
@@ -42,9 +43,9 @@ fn closing(alloc: Global, made: &[Made], halt: Option<BoardHalt>) -> Result<(Vec
 fn say_all<K: Desk>(mut desk: K, text: &[u8], status: u8) -> (K, u8)
     requires apart { status ≢ UNSAID }
     ensures ends { (name word : List ℕ) (count : ℕ) (past : List Command) (made : List AMade) (halted : Option AHalt)
-        (entry : K) → text.now ≡ closing_text made halted → status ≡ status_of_halt halted
-        → HasCalled name word count past made halted (K.state entry) (K.state desk)
-        → EndsCalls name word count past made halted (K.state entry) (K.state result.0) result.1 }
+        (entry seen : K) → text.now ≡ closing_text made halted → status ≡ status_of_halt halted
+        → HasCalled name word count past made halted (told_as (K.state seen) (K.state entry)) (K.state desk)
+        → EndsCalls name word count past made halted (told_as (K.state seen) (K.state entry)) (K.state result.0) result.1 }
     ensures concludes { Concludes (K.state desk) (K.state result.0) result.1 }
     ensures status { result.1 ≢ UNSAID → result.1 ≡ status }
 {
@@ -57,10 +58,10 @@ fn say_all<K: Desk>(mut desk: K, text: &[u8], status: u8) -> (K, u8)
 
 /// Says the lines of the calls that conductors made, and then why the board doesn't go on, if it doesn't.
 pub(crate) fn conclude<K: Desk>(alloc: Global, ended: Conducted<K>) -> (K, u8)
-    ensures ends { (name word : List ℕ) (count : ℕ) (past : List Command) (entry : K)
-        → HasCalled name word count past ended.shared.made ended.halt (K.state entry)
+    ensures ends { (name word : List ℕ) (count : ℕ) (past : List Command) (entry seen : K)
+        → HasCalled name word count past ended.shared.made ended.halt (told_as (K.state seen) (K.state entry))
         (K.state ended.shared.board.journal.desk)
-        → EndsCalls name word count past ended.shared.made ended.halt (K.state entry) (K.state result.0) result.1 }
+        → EndsCalls name word count past ended.shared.made ended.halt (told_as (K.state seen) (K.state entry)) (K.state result.0) result.1 }
     ensures shared { IsShared K.state ended.shared }
     ensures concludes { Concludes (K.state ended.shared.board.journal.desk) (K.state result.0) result.1 }
     ensures failed { result.1 ≡ DISK_FAILED → ended.halt ≡ Some DiskHalt }

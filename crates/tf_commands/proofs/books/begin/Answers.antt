@@ -3,7 +3,7 @@ use Rattle.tf_commands.proofs.BeginLemmas.{begins_on, failed_unbegun, stays_unbe
 use Rattle.tf_commands.proofs.books.begin.Goals as goal
 
 pub returns-in-Ok-clause-begins : goal.returns-in-Ok-clause-begins
-returns-in-Ok-clause-begins g c = λ name entry so.
+returns-in-Ok-clause-begins g c = λ name entry seen so.
     let D = g.K.Desk in
     let book = c.in-Ok.book in
     let e = c.in-Ok.ensures in
@@ -15,7 +15,7 @@ returns-in-Ok-clause-begins g c = λ name entry so.
     e.exact c.state-pending.ensures.history
 
 pub returns-in-Err-clause-unbegun : goal.returns-in-Err-clause-unbegun
-returns-in-Err-clause-unbegun g c = λ name entry so.
+returns-in-Err-clause-unbegun g c = λ name entry seen so.
     let D = g.K.Desk in
     let now = c.in-Err.back.0 in
     let plan = c.args.machine.plan in

@@ -7,8 +7,8 @@ open_number-requires-clause-within g c = asked_below c.args.wanted.now c.args.sh
 pub returns-in-Some-clause-holds : goal.returns-in-Some-clause-holds
 returns-in-Some-clause-holds g c =
     ok_on c.open_number.result _ _ c.open_number.ensures.holds
-    (λ book holds name entry so. holds name c.args.wanted.now entry so (c.in-Some.ensures c.args.shelf.elements c.details.ensures.list))
+    (λ book holds name entry seen so. holds name c.args.wanted.now entry seen so (c.in-Some.ensures c.args.shelf.elements c.details.ensures.list))
 
 pub returns-in-Some-clause-unfound : goal.returns-in-Some-clause-unfound
 returns-in-Some-clause-unfound g c =
-    err_on c.open_number.result _ _ c.open_number.ensures.unfound (λ over unfound name entry so. unfound name c.args.wanted.now entry so)
+    err_on c.open_number.result _ _ c.open_number.ensures.unfound (λ over unfound name entry seen so. unfound name c.args.wanted.now entry seen so)

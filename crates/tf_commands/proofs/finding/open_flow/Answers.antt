@@ -9,18 +9,18 @@ use Rattle.tf_commands.proofs.finding.open_flow.Goals as goal
 pub returns-in-Ok-clause-unfound : goal.returns-in-Ok-clause-unfound
 returns-in-Ok-clause-unfound g c =
     err_on c.open_asked.result _ _ c.open_asked.ensures.unfound
-    (λ over unfound. unfound c.args.name.now (told_as (g.K.Desk.state (desk_of c.in-Ok.shelf)) (g.K.Desk.state c.args.desk)) (record { opened = c.in-Ok.ensures.opened.does; found = c.in-Ok.ensures.loads }))
+    (λ over unfound. unfound c.args.name.now c.args.desk (desk_of c.in-Ok.shelf) (record { opened = c.in-Ok.ensures.opened.does; found = c.in-Ok.ensures.loads }))
 
 pub returns-in-Err-clause-unfound : goal.returns-in-Err-clause-unfound
 returns-in-Err-clause-unfound g c =
     let D = g.K.Desk in
     let r = c.refuse_book in
     told_through (λ before. Unfound c.args.name.now c.args.wanted.now before (D.state r.result.desk) r.result.status) (D.state c.args.desk) r.ensures.said.says.tells
-    (unopened_book (r.ensures.unopened c.args.name.now (told_as (D.state c.in-Err.desk) (D.state c.args.desk)) c.in-Err.ensures.unopened.does c.in-Err.ensures.refused))
+    (unopened_book (r.ensures.unopened c.args.name.now c.args.desk c.in-Err.desk c.in-Err.ensures.unopened.does c.in-Err.ensures.refused))
 
 pub returns-in-Err-clause-causes : goal.returns-in-Err-clause-causes
 returns-in-Err-clause-causes g c =
     let e = c.in-Err.ensures in
     let r = c.refuse_book in
     refused_causes (untouched_reaches e.unopened) r.ensures.said (λ is. e.cause (r.ensures.failed is))
-    (r.ensures.unopened c.args.name.now (told_as (g.K.Desk.state c.in-Err.desk) (g.K.Desk.state c.args.desk)) e.unopened.does e.refused)
+    (r.ensures.unopened c.args.name.now c.args.desk c.in-Err.desk e.unopened.does e.refused)

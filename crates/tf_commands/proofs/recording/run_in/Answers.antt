@@ -14,11 +14,11 @@ returns-in-Ok-clause-runs g c =
     let D = g.K.Desk in
     let here = g.met.K.Desk g.world.𝓛 g.world.𝓜 g.world.𝓡 ((λ s x. x), (λ x. x), (λ x. x), λ x. x) in
     let now = c.run_book.result.desk in
-    λ name entry so.
-    told_through (λ before. RunsAnew g.P.Performer.gives c.args.request.now _ _ name c.args.shelf.elements c.args.machine.plan before (D.state now) c.run_book.result.status) entry
+    λ name entry seen so.
+    told_through (λ before. RunsAnew g.P.Performer.gives c.args.request.now _ _ name c.args.shelf.elements c.args.machine.plan before (D.state now) c.run_book.result.status) (told_as (g.K.Desk.state seen) (g.K.Desk.state entry))
     c.run_book.ensures.runs.continues.extends.tells
-    (ran (begun_promised D.state g.P.Performer.gives c.args.request.now _ _ _ name c.args.shelf.elements c.args.machine.plan (told_as (D.state c.in-Ok.book.journal.desk) entry) c.in-Ok.book (D.state now) c.run_book.result.status
-    (c.in-Ok.ensures.begins name entry so) c.run_book.ensures.runs
+    (ran (begun_promised D.state g.P.Performer.gives c.args.request.now _ _ _ name c.args.shelf.elements c.args.machine.plan (told_as (D.state c.in-Ok.book.journal.desk) (g.K.Desk.state entry)) c.in-Ok.book (D.state now) c.run_book.result.status
+    (c.in-Ok.ensures.begins name entry seen so) c.run_book.ensures.runs
     (record { there = λ told picked. here.picked_is_there now name told picked; reads = λ told bytes is. here.reads_left now name bytes told is })
     c.in-Ok.ensures.ready.1 (λ rose. rises_later _ (D.state c.in-Ok.book.journal.desk).asks _ (omega (arith, c.in-Ok.ensures.goes.does.on_disk.asks)) rose)))
 
@@ -28,13 +28,13 @@ returns-in-Ok-clause-causes g c =
     ran_causes (goes_reaches c.in-Ok.ensures.goes) r.continues r.ended (omega arith) c.run_book.ensures.apart
 
 pub returns-in-Err-clause-runs : goal.returns-in-Err-clause-runs
-returns-in-Err-clause-runs g c = λ name entry so.
+returns-in-Err-clause-runs g c = λ name entry seen so.
     let D = g.K.Desk in
     let mid = D.state c.in-Err.desk in
-    told_through (λ before. RunsAnew g.P.Performer.gives c.args.request.now _ _ name c.args.shelf.elements c.args.machine.plan before (D.state c.say_unbegun.result.desk) c.say_unbegun.result.status) entry
+    told_through (λ before. RunsAnew g.P.Performer.gives c.args.request.now _ _ name c.args.shelf.elements c.args.machine.plan before (D.state c.say_unbegun.result.desk) c.say_unbegun.result.status) (told_as (g.K.Desk.state seen) (g.K.Desk.state entry))
     c.say_unbegun.ensures.says.says.tells
-    (c.say_unbegun.ensures.anew c.args.request.now _ _ name (told_as mid entry) (desk_of c.args.shelf) c.args.shelf.elements c.args.machine.plan (open_lowered mid c.in-Err.ensures.goes.falls so.opened)
-    (c.in-Err.ensures.unbegun name entry so) c.in-Err.ensures.fails c.requires.idle)
+    (c.say_unbegun.ensures.anew c.args.request.now _ _ name entry c.in-Err.desk (desk_of c.args.shelf) c.args.shelf.elements c.args.machine.plan (open_lowered mid c.in-Err.ensures.goes.falls so.opened)
+    (c.in-Err.ensures.unbegun name entry seen so) c.in-Err.ensures.fails c.requires.idle)
 
 pub returns-in-Err-clause-causes : goal.returns-in-Err-clause-causes
 returns-in-Err-clause-causes g c =

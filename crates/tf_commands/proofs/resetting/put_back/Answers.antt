@@ -1,4 +1,5 @@
 use Rattle.std.proofs.Common.{◌≡◌, ◌∙◌, sym, ap, arith, None, Some, Err}
+use Rattle.tf_desk.specs.State.{told_as}
 use Rattle.tf_flow.specs.declared.nested.Flow.{Flow}
 use Rattle.tf_flow.specs.Plan.{PlanValue}
 use Rattle.tf_details.specs.Elements.{detail_name}
@@ -25,14 +26,14 @@ returns-in-Ok-clause-causes g c =
     (ran_causes {status = SUCCEEDED} {crew = 0} {crew_now = 0} reaches_itself kept.continues (record { unsaid = λ is. absurd (cc); failed = λ is. absurd (cc) }) (omega arith) (λ is. absurd (cc), λ is. absurd (cc)))
 
 pub returns-in-Ok-clause-goes : goal.returns-in-Ok-clause-goes
-returns-in-Ok-clause-goes g c = λ name wanted entry opened holds.
+returns-in-Ok-clause-goes g c = λ name wanted entry seen opened holds.
     let D = g.K.Desk in
     let book = c.reset.new.self in
     let kept = c.reset.ensures.proceeds.keeps c.args.book (keeps_none D.state c.args.book c.requires.sound) in
     let may = is_so (may_reset (outline c.args.book) (moment c.args.book)) (λ never. (let refused = c.reset.ensures.forbidden c.requires.sound never in cc)) in
     let opened_so = c.state-pending.ensures.open (λ is. (let clash : None ≡ Some halt.Disk = sym c.in-Ok.ensures.sound ∙ is in cc)) in
     rw (sym c.close.ensures.desk) at
-    (resets_over D.state name wanted entry c.args.book (D.state book.journal.desk) _ opened holds c.requires.kept c.requires.speaks may
+    (resets_over D.state name wanted (told_as (g.K.Desk.state seen) (g.K.Desk.state entry)) c.args.book (D.state book.journal.desk) _ opened holds c.requires.kept c.requires.speaks may
     (all_goes_back D.state c.args.book book
     (record { kept = kept; put = c.in-Ok.ensures.put_back.on; speaks = c.requires.speaks; failed = unhalted_tried _ _ _ c.in-Ok.ensures.sound }) c.in-Ok.ensures.sound opened_so c.in-Ok.ensures.put_back.pending (record { held = c.state-pending.ensures.held; told = c.state-pending.ensures.told }))
     (record {
@@ -41,22 +42,22 @@ returns-in-Ok-clause-goes g c = λ name wanted entry opened holds.
     }))
 
 pub returns-in-Err-Forbidden-clause-goes : goal.returns-in-Err-Forbidden-clause-goes
-returns-in-Err-Forbidden-clause-goes g c = λ name wanted entry opened holds.
+returns-in-Err-Forbidden-clause-goes g c = λ name wanted entry seen opened holds.
     let D = g.K.Desk in
     let refused = c.in-Err-Forbidden.ensures.refused c.in-Err-Forbidden.state (ap Err c.in-Err-Forbidden.field-0-is) in
     let named : c.root.result.now.name ≡ detail_name c.args.book.plan =
     ap (λ (f : Flow). f.name) c.root.ensures.value ∙ ap (λ (p : PlanValue). detail_name p) (c.plan.ensures.is ∙ c.machine.ensures.plan) ∙ ap (λ (b : BookValue g.row.K.Denot). detail_name b.plan) refused.1 in
-    forbidden_back D.state name wanted entry c.args.book _ c.in-Err-Forbidden.state (D.state c.forbid.result.desk) c.forbid.result.status named refused.0 holds refused.3
-    (c.forbid.ensures.refuses name entry
+    forbidden_back D.state name wanted (told_as (g.K.Desk.state seen) (g.K.Desk.state entry)) c.args.book _ c.in-Err-Forbidden.state (D.state c.forbid.result.desk) c.forbid.result.status named refused.0 holds refused.3
+    (c.forbid.ensures.refuses name entry seen
     (untouched_by D.state _ _ (ap (λ (b : BookValue g.row.K.Denot). b.journal.desk) (sym refused.1) ∙ sym c.close-in-Err-Forbidden.ensures.desk) opened.untouched))
 
 pub returns-in-Err-Book-clause-goes : goal.returns-in-Err-Book-clause-goes
-returns-in-Err-Book-clause-goes g c = λ name wanted entry opened holds.
+returns-in-Err-Book-clause-goes g c = λ name wanted entry seen opened holds.
     let D = g.K.Desk in
     let now = c.stop.result.desk in
     let kept = c.reset.ensures.proceeds.keeps c.args.book (keeps_none D.state c.args.book c.requires.sound) in
     let may = is_so (may_reset (outline c.args.book) (moment c.args.book)) (λ never. (let refused = c.reset.ensures.forbidden c.requires.sound never in cc)) in
-    resets_over D.state name wanted entry c.args.book (D.state now) c.stop.result.status opened holds c.requires.kept c.requires.speaks may
+    resets_over D.state name wanted (told_as (g.K.Desk.state seen) (g.K.Desk.state entry)) c.args.book (D.state now) c.stop.result.status opened holds c.requires.kept c.requires.speaks may
     (c.stop.ensures.goes c.args.book (record {
       kept = kept;
       put = c.in-Err-Book.ensures.cut;

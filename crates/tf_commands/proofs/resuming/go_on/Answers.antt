@@ -1,4 +1,5 @@
 use Rattle.std.proofs.Common.{arith}
+use Rattle.tf_desk.specs.State.{told_as}
 use Rattle.tf_ports.specs.Ports.{gives_by}
 use Rattle.tf_commands.specs.Asking.{WasAsked}
 use Rattle.tf_commands.proofs.CountLemmas.{reaches_itself, ran_causes}
@@ -12,8 +13,8 @@ returns-in-Success-clause-goes g c =
     let now = c.report_ended.result.desk in
     let status = c.report_ended.result.status in
     let at = c.state-state.ensures in
-    λ name wanted entry opened holds.
-    ended_goes D.state (gives_by g.W.Hand.Performer.gives g.W.Far.Performer.gives c.args.request.now.want) c.args.request.now _ name wanted entry c.args.book (D.state now) status _ c.state-state.result
+    λ name wanted entry seen opened holds.
+    ended_goes D.state (gives_by g.W.Hand.Performer.gives g.W.Far.Performer.gives c.args.request.now.want) c.args.request.now _ name wanted (told_as (g.K.Desk.state seen) (g.K.Desk.state entry)) c.args.book (D.state now) status _ c.state-state.result
     opened holds c.requires.kept at.is (ended_so c.state-state.result c.in-Success.is)
     (ended_on D.state (gives_by g.W.Hand.Performer.gives g.W.Far.Performer.gives c.args.request.now.want) c.args.request.now (WasAsked (D.state c.args.book.journal.desk) (D.state now)) c.args.book (D.state now) status c.state-state.result
     c.requires.sound c.requires.speaks at.is (ended_so c.state-state.result c.in-Success.is) at.history (record { held = at.held; told = at.told }) at.limits at.short (c.report_ended.ensures.runs c.args.book c.requires.spoken))

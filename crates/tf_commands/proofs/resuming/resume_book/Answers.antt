@@ -16,7 +16,7 @@ returns-in-Ok-clause-resumes g c =
     resumes_more _ c.args.request.now _ _ c.args.name.now c.args.wanted.now _ _ (told_as (D.state c.go_on.result.desk) (D.state c.args.desk)) (D.state c.go_on.result.desk) c.go_on.result.status
     (λ rose. rises_later (D.state c.args.desk).asks (D.state book.journal.desk).asks (D.state c.go_on.result.desk).asks e.asks rose)
     (told_through (λ before. Resumes _ c.args.request.now _ c.args.name.now c.args.wanted.now _ _ before (D.state c.go_on.result.desk) c.go_on.result.status) (D.state c.args.desk) c.go_on.ensures.tells
-    (resumed_over book e.ready.runs e.holds (c.go_on.ensures.goes c.args.name.now c.args.wanted.now (told_as (D.state book.journal.desk) (D.state c.args.desk)) e.opened.does e.holds)))
+    (resumed_over book e.ready.runs e.holds (c.go_on.ensures.goes c.args.name.now c.args.wanted.now c.args.desk book.journal.desk e.opened.does e.holds)))
 
 pub returns-in-Ok-clause-causes : goal.returns-in-Ok-clause-causes
 returns-in-Ok-clause-causes g c = causes_from (g.K.Desk.state c.go_on.result.desk) (open_reaches c.in-Ok.ensures.opened) c.go_on.ensures.causes

@@ -11,7 +11,7 @@ returns-in-Ok-clause-shows g c =
     let D = g.K.Desk in
     let mid = D.state c.in-Ok.book.journal.desk in
     told_through (λ before. ShowsBook c.args.name.now c.args.wanted.now before (D.state c.say_whole.result.desk) c.say_whole.result.status) (D.state c.args.desk) c.say_whole.ensures.said.says.tells
-    (shows_whole D.state c.args.name.now c.args.wanted.now (told_as mid (D.state c.args.desk)) c.say_whole.result.desk c.say_whole.result.status c.in-Ok.book c.say_whole.ensures.shows c.in-Ok.ensures.opened.does.untouched c.in-Ok.ensures.holds)
+    (shows_whole D.state c.args.name.now c.args.wanted.now c.args.desk c.in-Ok.book.journal.desk c.say_whole.result.desk c.say_whole.result.status c.in-Ok.book c.say_whole.ensures.shows c.in-Ok.ensures.opened.does.untouched c.in-Ok.ensures.holds)
 
 pub returns-in-Ok-clause-causes : goal.returns-in-Ok-clause-causes
 returns-in-Ok-clause-causes g c =

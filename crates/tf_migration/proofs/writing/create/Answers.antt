@@ -32,22 +32,22 @@ write-requires-clause-stays g c = λ told.
     synced_unborn D.state c.args.desk c.in-Err.desk laws (e.at_sync told (λ is. let no = sym c.in-Unborn.is ∙ is in cc)) told found
 
 pub returns-in-Ok : goal.returns-in-Ok
-returns-in-Ok g c = λ name entry picked.
+returns-in-Ok g c = λ name entry seen picked.
     let D = g.K.Desk in
     let e = c.in-Ok.ensures in
     let laws : KeepsLaws D.state =
     record { tells_shown = g.met.K.Desk.tells_shown; picked_is_there = g.met.K.Desk.picked_is_there; reads_left = g.met.K.Desk.reads_left; counts_now = g.met.K.Desk.counts_now; only_now = g.met.K.Desk.only_now } in
     let end = D.state c.in-Ok.journal.desk in
-    let entry_end = told_as end entry in
+    let entry_end = told_as end (g.K.Desk.state entry) in
     let desk_end = told_as end (D.state c.args.desk) in
     let picked_end = picked_lowered end e.rests.falls picked in
     let laws_end = laws_lowered end e.rests.falls (laws_of laws c.args.desk) in
-    subst (λ (k : g.row.K.Denot). FailsToMake name c.args.bodies.now fault.Exists (told_as (D.state k) entry) (D.state k)) (sym c.into_desk.ensures)
+    subst (λ (k : g.row.K.Denot). FailsToMake name c.args.bodies.now fault.Exists (told_as (D.state k) (g.K.Desk.state entry)) (D.state k)) (sym c.into_desk.ensures)
     (read_exists name entry_end desk_end laws_end picked_end c.args.bodies.now end (laws_of laws c.in-Ok.journal.desk) e.rests.does (λ told. synced_told (e.synced told))
     (λ told is. let no = sym (e.recovers told).1 ∙ is in cc))
 
 pub returns-in-Unborn : goal.returns-in-Unborn
-returns-in-Unborn g c = λ name entry picked.
+returns-in-Unborn g c = λ name entry seen picked.
     let D = g.K.Desk in
     let e = c.in-Err.ensures in
     let laws : KeepsLaws D.state =
@@ -55,46 +55,46 @@ returns-in-Unborn g c = λ name entry picked.
     let w = c.write.ensures in
     let end = D.state (desk_written c.write.result) in
     let still : IsTrue end.tells → IsTrue (D.state c.args.desk).tells = λ told. e.rests.falls (w.goes.falls told) in
-    written_makes name (told_as end entry) (told_as end (D.state c.args.desk)) (laws_lowered end still (laws_of laws c.args.desk)) (picked_lowered end still picked)
+    written_makes name (told_as end (g.K.Desk.state entry)) (told_as end (D.state c.args.desk)) (laws_lowered end still (laws_of laws c.args.desk)) (picked_lowered end still picked)
     (told_as end (D.state c.in-Err.desk)) (laws_lowered end w.goes.falls (laws_of laws c.in-Err.desk)) (rests_lowered end w.goes.falls e.rests.does)
     (λ told. synced_lowered end (e.at_sync (w.goes.falls told) (λ is. let no = sym c.in-Unborn.is ∙ is in cc)))
     (λ told. subst (λ (f : JournalFault). RefusesFile f (new_in (bytes_now (D.state c.args.desk)))) c.in-Unborn.is (e.recovers (w.goes.falls told)))
     c.args.bodies.now D.state laws c.write.result w.goes.does w.left w.fails (same_mid D.state c.in-Err.desk c.write.result w.untouched)
 
 pub returns-in-Disk : goal.returns-in-Disk
-returns-in-Disk g c = λ name entry picked.
+returns-in-Disk g c = λ name entry seen picked.
     let D = g.K.Desk in
     let e = c.in-Err.ensures in
     let laws : KeepsLaws D.state =
     record { tells_shown = g.met.K.Desk.tells_shown; picked_is_there = g.met.K.Desk.picked_is_there; reads_left = g.met.K.Desk.reads_left; counts_now = g.met.K.Desk.counts_now; only_now = g.met.K.Desk.only_now } in
     let end = D.state c.in-Err.desk in
-    let entry_end = told_as end entry in
+    let entry_end = told_as end (g.K.Desk.state entry) in
     let desk_end = told_as end (D.state c.args.desk) in
     let picked_end = picked_lowered end e.rests.falls picked in
     let laws_end = laws_lowered end e.rests.falls (laws_of laws c.args.desk) in
     read_failed name entry_end desk_end laws_end picked_end c.args.bodies.now end (laws_of laws c.in-Err.desk) e.rests.does (λ told. synced_told (e.synced told)) (e.cause c.in-Disk.is)
 
 pub returns-in-Memory : goal.returns-in-Memory
-returns-in-Memory g c = λ name entry picked.
+returns-in-Memory g c = λ name entry seen picked.
     let D = g.K.Desk in
     let e = c.in-Err.ensures in
     let laws : KeepsLaws D.state =
     record { tells_shown = g.met.K.Desk.tells_shown; picked_is_there = g.met.K.Desk.picked_is_there; reads_left = g.met.K.Desk.reads_left; counts_now = g.met.K.Desk.counts_now; only_now = g.met.K.Desk.only_now } in
     let end = D.state c.in-Err.desk in
-    let entry_end = told_as end entry in
+    let entry_end = told_as end (g.K.Desk.state entry) in
     let desk_end = told_as end (D.state c.args.desk) in
     let picked_end = picked_lowered end e.rests.falls picked in
     let laws_end = laws_lowered end e.rests.falls (laws_of laws c.args.desk) in
     read_kept name entry_end desk_end laws_end picked_end end (laws_of laws c.in-Err.desk) e.rests.does (λ told. synced_told (e.synced told))
 
 pub returns-in-NotABook : goal.returns-in-NotABook
-returns-in-NotABook g c = λ name entry picked.
+returns-in-NotABook g c = λ name entry seen picked.
     let D = g.K.Desk in
     let e = c.in-Err.ensures in
     let laws : KeepsLaws D.state =
     record { tells_shown = g.met.K.Desk.tells_shown; picked_is_there = g.met.K.Desk.picked_is_there; reads_left = g.met.K.Desk.reads_left; counts_now = g.met.K.Desk.counts_now; only_now = g.met.K.Desk.only_now } in
     let end = D.state c.in-Err.desk in
-    let entry_end = told_as end entry in
+    let entry_end = told_as end (g.K.Desk.state entry) in
     let desk_end = told_as end (D.state c.args.desk) in
     let picked_end = picked_lowered end e.rests.falls picked in
     let laws_end = laws_lowered end e.rests.falls (laws_of laws c.args.desk) in

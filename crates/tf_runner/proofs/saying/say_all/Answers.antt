@@ -7,7 +7,7 @@ use Rattle.tf_runner.proofs.CallLemmas.{called_ends, called_silent, empty_so}
 use Rattle.tf_runner.proofs.saying.say_all.Goals as goal
 
 pub returns-clause-ends : goal.returns-clause-ends
-returns-clause-ends g c = λ name word count past made halted entry text status h.
+returns-clause-ends g c = λ name word count past made halted entry seen text status h.
     let D = g.K.Desk in
     let shown = (D.state c.args.desk).shown in
     let now = D.state c.close-status.new.desk in
@@ -20,7 +20,7 @@ returns-clause-concludes g c =
     concludes_said c.close-status.result c.close-status.ensures.says (λ is. c.close-status.ensures.unsaid is c.requires.apart)
 
 pub returns-then-is_empty-clause-ends : goal.returns-then-is_empty-clause-ends
-returns-then-is_empty-clause-ends g c = λ name word count past made halted entry text status h.
+returns-then-is_empty-clause-ends g c = λ name word count past made halted entry seen text status h.
     called_silent h c.args.status (sym text ∙ empty_so c.args.text.now (sym c.is_empty.ensures ∙ c.if-is_empty.true)) status
 
 pub returns-then-is_empty-clause-concludes : goal.returns-then-is_empty-clause-concludes
