@@ -108,7 +108,7 @@ module _ (name : List ℕ) (entry desk : DeskState) (laws : LawsOf desk) (picked
 
   module _ (mid : DeskState) (laws_mid : LawsOf mid) (rests : Rests desk mid) (synced : IsTrue desk.tells → HasSynced desk mid)
       (unborn_desk : IsTrue desk.tells → new_in (bytes_now desk) ≡ unborn) (held : List (List ℕ)) where
-    kept_mid : IsKept name entry mid
+    pub kept_mid : IsKept name entry mid
     kept_mid = read_kept mid laws_mid rests (λ told. inr (synced told))
 
     open_mid : Open name entry mid
@@ -164,15 +164,15 @@ module _ (name : List ℕ) (entry desk : DeskState) (laws : LawsOf desk) (picked
 
     made_by : (why : NewFault) (now : DeskState) → LawsOf now → GoesOn (LeavesOnce (left_by why) held mid.shown) mid now
         → (IsTrue mid.tells → IsLeftSo (left_by why) held now) → FailsToWrite held why mid now
-        → (why ≡ fault.Memory → now ≡ mid) → FailsToMake name held why entry now
+        → (why ≡ fault.Memory → IsKept name entry now) → FailsToMake name held why entry now
     made_by fault.Disk now laws_now goes leaves fails same = (rose_mid now fails, inr (made_so either now laws_now goes leaves))
     made_by (fault.Full size need) now laws_now goes leaves fails same = (made_so not_yet now laws_now goes leaves, fails)
-    made_by fault.Memory now laws_now goes leaves fails same = subst (λ (s : DeskState). IsKept name entry s) (sym (same refl)) kept_mid
+    made_by fault.Memory now laws_now goes leaves fails same = same refl
     made_by fault.Exists now laws_now goes leaves fails same = absurd fails
 
     pub written_makes : {K : Type 0} (state : K → DeskState) → KeepsLaws state → (r : Result K (K × NewFault)) → GoesOn (LeavesOnce (left_written r) held mid.shown) mid (state (desk_written r))
         → (IsTrue mid.tells → IsLeftSo (left_written r) held (state (desk_written r))) → IfErr r (λ back. FailsToWrite held back.1 mid (state back.0))
-        → IfErr r (λ back. back.1 ≡ fault.Memory → state back.0 ≡ mid) → Makes state name held entry r
+        → IfErr r (λ back. back.1 ≡ fault.Memory → IsKept name entry (state back.0)) → Makes state name held entry r
     written_makes state keeps (Ok now) goes leaves fails same = made_so whole (state now) (laws_of keeps now) goes leaves
     written_makes state keeps (Err back) goes leaves fails same = made_by back.1 (state back.0) (laws_of keeps back.0) goes leaves fails same
 
@@ -189,7 +189,21 @@ picked_lowered {name} {entry} {desk} end falls p = record {
     before told = subst IsTrue p.on_disk.tells (falls told)
 
 -- memory ran out before anything was written
-pub same_mid : {K : Type 0} (state : K → DeskState) (mid : K) (r : Result K (K × NewFault)) → IfErr r (λ back. back.1 ≡ fault.Memory → back.0 ≡ mid)
-    → IfErr r (λ back. back.1 ≡ fault.Memory → state back.0 ≡ told_as (state (desk_written r)) (state mid))
-same_mid state mid (Ok now) same = tt
-same_mid {K} state mid (Err back) same = λ is. subst (λ (k : K). state back.0 ≡ told_as (state back.0) (state k)) (same is) refl
+pub still_kept : {K : Type 0} (state : K → DeskState) (mid : K) (name : List ℕ) (entry : DeskState) (r : Result K (K × NewFault))
+    → IsKept name (told_as (state (desk_written r)) entry) (told_as (state (desk_written r)) (state mid)) → IfErr r (λ back. back.1 ≡ fault.Memory → back.0 ≡ mid)
+    → IfErr r (λ back. back.1 ≡ fault.Memory → IsKept name (told_as (state (desk_written r)) entry) (state back.0))
+still_kept state mid name entry (Ok now) kept same = tt
+still_kept {K} state mid name entry (Err back) kept same = λ is.
+    subst (λ (k : K). IsKept name (told_as (state back.0) entry) (told_as (state back.0) (state k))) (sym (same is)) kept
+
+-- why it wasn't written, of a desk that tells less in the end
+fails_lowered : (held : List (List ℕ)) (why : NewFault) (mid now end : DeskState) → FailsToWrite held why mid now → FailsToWrite held why (told_as end mid) now
+fails_lowered held fault.Disk mid now end fails = fails
+fails_lowered held (fault.Full size need) mid now end fails = fails
+fails_lowered held fault.Memory mid now end fails = fails
+fails_lowered held fault.Exists mid now end fails = fails
+
+pub unwritten_lowered : {K : Type 0} (state : K → DeskState) (mid end : DeskState) (held : List (List ℕ)) (r : Result K (K × NewFault)) → IfErr r (λ back. FailsToWrite held back.1 mid (state back.0))
+    → IfErr r (λ back. FailsToWrite held back.1 (told_as end mid) (state back.0))
+unwritten_lowered state mid end held (Ok now) fails = tt
+unwritten_lowered state mid end held (Err back) fails = fails_lowered held back.1 mid (state back.0) end fails

@@ -54,3 +54,6 @@ returns-in-Memory-clause-migrates g c = λ old new kept entry mid seen r fails.
     let D = g.K.Desk in
     let k = subst (λ (f : NewFault). FailsToMake new kept f (told_as (g.K.Desk.state seen) (g.K.Desk.state mid)) (D.state c.args.desk)) c.in-Memory.is fails in
     unbegun_so r k unbegun_no_memory (concludes_none [] 9 (D.state c.args.desk))
+
+pub returns-in-Full-clause-tells : goal.returns-in-Full-clause-tells
+returns-in-Full-clause-tells g c = (c.say_text.ensures (book_full c.in-Full.size c.in-Full.need) c.book_full_text-text.ensures).says.tells

@@ -31,3 +31,6 @@ pub returns-in-Memory-clause-migrates : goal.returns-in-Memory-clause-migrates
 returns-in-Memory-clause-migrates g c = λ old new entry seen u.
     let D = g.K.Desk in
     unread_so new u unread_no_memory (concludes_none [] 9 (D.state c.args.desk))
+
+pub returns-in-NotABook-clause-tells : goal.returns-in-NotABook-clause-tells
+returns-in-NotABook-clause-tells g c = (c.say_text.ensures (not_a_book c.in-NotABook.offset c.in-NotABook.byte) c.not_a_book_text-text.ensures).says.tells

@@ -29,4 +29,5 @@ pub returns-in-Err-fill-clause-left : goal.returns-in-Err-fill-clause-left
 returns-in-Err-fill-clause-left g c = λ told.
     write_left g.K.Desk.state c.args.bodies.now (left_by c.unmade.result) (left_added {A = Unit {0}} (Err c.in-Err-fill.fault)) c.fill.new.journal.desk
     c.into_desk-in-Err-fill.result (ap left_by c.unmade.ensures ∙ same_left c.in-Err-fill.fault) c.into_desk-in-Err-fill.ensures
-    (c.in-Err-fill.ensures.left (subst IsTrue c.in-Err-fill.ensures.goes.on_disk.tells told))
+    (c.in-Err-fill.ensures.left (subst IsTrue c.in-Err-fill.ensures.goes.on_disk.tells
+    (subst (λ (k : g.row.K.Denot). IsTrue (g.K.Desk.state k).tells) c.into_desk-in-Err-fill.ensures told)))
