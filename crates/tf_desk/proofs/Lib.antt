@@ -8,3 +8,8 @@ pub mod LogLemmas
 pub mod CrashedLemmas
 pub mod OtherLemmas
 pub mod LeavesLemmas
+pub mod OptionLemmas
+pub mod PutsLemmas
+pub mod SaysLemmas
+pub mod ReadsLemmas
+pub mod ReplaySteps
