@@ -9,10 +9,11 @@ use Rattle.tf_desk.specs.Crash.{written, Torn, Images, IsLeft}
 use Rattle.tf_desk.specs.State.{DeskState, bytes_now, LeftNow, Passes, Tears, passes_on}
 use Rattle.tf_desk.specs.Acts.{names}
 use Rattle.tf_desk.specs.ActLaws.{bytes_of-picked, names_picked, picked_names, torn-written}
-use Rattle.tf_desk.specs.TornLaws.{torn_none, torn_wider, torn_within, written_none, written_on, size_written}
+use Rattle.tf_desk.specs.TornLaws.{torn_none, torn_wider}
 use Rattle.tf_desk.specs.Replay.{First, replay, left_written, after_written}
 use Rattle.tf_desk.specs.Loops.{Puts, PutsSome}
 use Rattle.tf_desk.proofs.FileLemmas.{chosen}
+use Rattle.tf_desk.proofs.WrittenLemmas.{torn_within, written_none, written_on, size_written}
 use Rattle.tf_desk.proofs.StateLemmas.{goes_none}
 
 pub unpicked : {X : Type 0} (b : Bool) (x y : X) → (b ≡ true → ⊥) → (if b then x else y) ≡ y

@@ -4,9 +4,9 @@ use Rattle.std.proofs.lemmas.List.{take_all, take-take, append_assoc, append-nil
 use Rattle.std.proofs.Math.Seq.{take-add}
 use Rattle.tf_desk.specs.Crash.{shown_with}
 use Rattle.tf_desk.specs.State.{DeskState, MayLeave, SaysPrefix, passes_none}
-use Rattle.tf_desk.specs.TornLaws.{cases_le}
 use Rattle.tf_desk.specs.Replay.{after_said}
 use Rattle.tf_desk.specs.Loops.{SaysFront}
+use Rattle.tf_desk.proofs.WrittenLemmas.{cases_le}
 use Rattle.tf_desk.proofs.StateLemmas.{files_none, left_stays}
 
 shown_none : (shown : Option (List ℕ)) → shown ≡ shown_with shown []

@@ -171,8 +171,8 @@ left_reads (synced ∷ past) name bytes is =
     (λ was there. left_reads past name was there) is
 left_reads (said new ∷ past) name bytes is = left_reads past name bytes is
 
-pub none_torn : (b : Bool) (file : Option (List ℕ)) (new : List ℕ) (P Q : Type 0) → (if b then Some new else file) ≡ None
-    → (file ≡ None → Q → ⊥) → MatchBool b P Q → ⊥
+pub none_torn : (b : Bool) (file : Option (List ℕ)) (new : List ℕ) (P Q : Type 0)
+    → (if b then Some new else file) ≡ None → (file ≡ None → Q → ⊥) → MatchBool b P Q → ⊥
 none_torn true file new P Q is none left = cc
 none_torn false file new P Q is none left = none is left
 

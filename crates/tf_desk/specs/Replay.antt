@@ -58,11 +58,12 @@ reads_empty name s = length (unwrap_or (s.content.files name) []) == 0
 
 -- ---- a file that is picked or made
 
+-- the files with one of that name: one that isn't there is empty
 abbrev pub files_with : List ℕ → DeskState → List ℕ → Option (List ℕ)
 files_with name s other =
     if pointwise ◌==◌ name other then Some (unwrap_or (s.content.files other) []) else s.content.files other
 
--- a new file is empty
+-- what a crash leaves then of each file: of a new one no bytes
 abbrev pub left_with : List ℕ → DeskState → List ℕ → List ℕ → Type 0
 left_with name s other image = s.left other image ⊎ ((other ≡ name) × (s.content.files other ≡ None) × (image ≡ []))
 
@@ -89,11 +90,13 @@ after_made name s = stepped s nothing_left record s {
 
 -- ---- bytes that are written, put on the disk or said
 
+-- the files with these bytes in the picked one, from that offset on
 abbrev pub files_written : ℕ → List ℕ → DeskState → List ℕ → Option (List ℕ)
 files_written at kept s other =
     if names s.content.picked other then Some (written (unwrap_or (s.content.files other) []) at kept)
     else s.content.files other
 
+-- what a crash leaves of each file once n bytes are written to the picked one: that is torn there
 abbrev pub left_written : ℕ → ℕ → DeskState → List ℕ → List ℕ → Type 0
 left_written at n s other image =
     MatchBool (names s.content.picked other) ((was : List ℕ) × s.left other was × Torn at n was image)
@@ -106,10 +109,12 @@ after_written at n kept s = stepped s (IsLeftNow s.content (left_written at n s)
   left = left_written at n s;
 }
 
+-- what a crash leaves of each file after a sync: of the picked one what is read
 abbrev pub left_synced : DeskState → List ℕ → List ℕ → Type 0
 left_synced s other image =
     MatchBool (names s.content.picked other) (s.content.files other ≡ Some image) (s.left other image)
 
+-- the picked file was put on the disk
 abbrev pub after_synced : DeskState → DeskState
 after_synced s = stepped s nothing_left record s {
   content = record s.content {
@@ -119,6 +124,7 @@ after_synced s = stepped s nothing_left record s {
   left = left_synced s;
 }
 
+-- these bytes were said
 abbrev pub after_said : List ℕ → DeskState → DeskState
 after_said bytes s = stepped s (SaysPrefix s bytes) record s {
   shown = shown_with s.shown bytes;
@@ -138,8 +144,8 @@ after put (tore at bytes) s = after_written at (length bytes) (take put bytes) s
 after put synced s = after_synced s
 after put (said bytes) s = after_said bytes s
 
--- What a desk tells after these calls, of which the newest comes first. It tells as long as each answer agrees with what
--- the calls before it make of the files. Its four counts are none of the calls'.
+-- What a desk tells after these calls, of which the newest comes first. It tells its files as long as each answer
+-- agrees with what the calls before it make of them. Its four counts stand beside the calls, and are 0 here.
 abbrev pub replay : First → List Call → DeskState
 replay first [] = at_first first
 replay first (call ∷ past) = after (first.put (length past)) call (replay first past)

@@ -28,12 +28,16 @@ struct Taken<F> {
 }
 
 /// The real desk, over files and standard output: a name is a path. It notes each call of the system that it makes with
-/// its answer, and tells its files, their crash images, its marks and its text as they follow from these calls and from
-/// what the files held at first in its world, as long as each open, each size and each read agrees with that; its text
-/// and its counts it always tells. A file that is picked to be written is locked from then on, until another file is
-/// picked; one that is shared from the first write on. A lock that another program has is waited for two seconds, and
-/// then refused as `Disk`. So is the first write to a file that isn't as it was picked, and changes nothing. Of each call
-/// that fails the system's reason is said on standard error.
+/// its answer, and tells its files, what a crash may leave of them and its marks as they follow from these calls and
+/// from what the files held at first in its world, as long as each open, each size and each read agrees with that. Its
+/// text and its counts it tells in any case. So what is said of the desk's files holds of the real ones only where
+/// nobody else writes them unseen, and where two names don't stand for one file: what a read doesn't show, nothing here
+/// finds.
+///
+/// A file that is picked to be written is locked from then on, until another file is picked; one that is shared from
+/// the first write on. A lock that another program has is waited for two seconds, and then refused as `Disk`. So is the
+/// first write to a file that isn't as it was picked, and changes nothing. Of each call that fails the system's reason
+/// is said on standard error.
 #[derive(Drop)]
 pub struct FileDesk<R: Files, W: World> {
     runtime: R,
@@ -52,7 +56,8 @@ impl<R: Files, W: World> FileDesk<R, W> {
     /// A desk with no file and no fault so far, that has made no call, and whose files are picked for this.
     pub fn make(runtime: R, access: Access) -> FileDesk<R, W>
         ensures no_calls { calls_of result ≡ [] }
-        ensures no_faults { (result.disk_faults ≡ 0) × (result.out_faults ≡ 0) × (result.asks ≡ 0) × (result.turns ≡ 0) }
+        ensures no_faults { (result.disk_faults ≡ 0) × (result.out_faults ≡ 0) × (result.asks ≡ 0)
+            × (result.turns ≡ 0) }
     {
         FileDesk {
             runtime,
@@ -162,7 +167,8 @@ impl<R: Files<File = File> + Clock + Print + Eprint + Drop, W: World + Drop> Des
 
     ghost none_left = { λ desk name image told. left_none W.first desk.opened name image };
 
-    ghost earlier_allows = { λ desk early late image text told. (is_now W.first desk.opened).earlier early late image text };
+    ghost earlier_allows = { λ desk early late image text told.
+        (is_now W.first desk.opened).earlier early late image text };
 
     ghost counts_now = { λ desk start image text told. (is_now W.first desk.opened).now start image text };
 

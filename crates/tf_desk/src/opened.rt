@@ -1,5 +1,8 @@
-//! The file that a desk over files has open, and the calls of the system that the desk makes, each noted with its
+//! The file that a desk over files has open, and the calls of the system that the desk made, each noted with its
 //! answer.
+//!
+//! No proof shows that a function that notes a call makes it: `pick`, `keep`, `size` and `sync` are to be read by eye,
+//! with `write_once`, `read_once` and `say_once` of `streams.rt`.
 ghost use Rattle.std.specs.Prelude.{◌≡◌, ◌≤◌, ◌∷◌, [], Bool, length, string_bytes, IsTrue, IfOk, OnOk, OnErr};
 ghost use Rattle.tf_trace.specs.Calls.{opened};
 ghost use Rattle.tf_desk.specs.Crash.{written, Reads, shown_with};
@@ -74,7 +77,9 @@ struct Picked {
     absent: bool,
 }
 
-/// The file that a desk has picked and the calls that it made. Callers see the calls.
+/// The file that a desk has picked, and the calls that it made. Callers see the calls, the newest first. After a pick
+/// that failed no file is open, and the one that the calls picked before stays the picked one: each call of it then
+/// fails and changes nothing.
 #[derive(Drop)]
 pub struct Opened {
     picked: Option<Picked>,
@@ -241,8 +246,8 @@ impl Opened {
         }
     }
 
-    /// Picks the file of that path for this, in the place of the one before. `Err`: none is picked, and an empty one may
-    /// have been made.
+    /// Picks the file of that path for this, in the place of the one before. `Err`: none is picked, and an empty one
+    /// may have been made.
     pub fn pick<R: Files<File = File> + Clock>(
         &mut self,
         runtime: &R,
@@ -253,7 +258,8 @@ impl Opened {
             → WithCounts (Picks (string_bytes path)) (replay first self.old) (replay first self.new)) }
         ensures unpicked { OnErr result ((first : First)
             → WithCounts (PicksNone (string_bytes path)) (replay first self.old) (replay first self.new)) }
-        ensures leaves { (first : First) → LeavesMade (string_bytes path) (replay first self.old) (replay first self.new) }
+        ensures leaves { (first : First)
+            → LeavesMade (string_bytes path) (replay first self.old) (replay first self.new) }
         ensures on_disk { (first : First) → WithCounts (λ old new. Trusts (OnDisk (LeftNow new)) old new)
             (replay first self.old) (replay first self.new) }
     {
@@ -294,7 +300,8 @@ impl Opened {
     pub fn size(&mut self) -> io::Result<u64>
         ensures size { (first : First) → IfOk result (λ size. IsTrue (replay first self.new).tells
             → size ≡ length (bytes_now (replay first self.old))) }
-        ensures marks { (first : First) → (replay first self.new).content.marks ≡ (replay first self.old).content.marks }
+        ensures marks { (first : First)
+            → (replay first self.new).content.marks ≡ (replay first self.old).content.marks }
         ensures rests { (first : First)
             → WithCounts (Trusts Rests) (replay first self.old) (replay first self.new) }
     {
@@ -311,7 +318,8 @@ impl Opened {
         ensures bound { IfOk result (λ n. n ≤ length buf.new) }
         ensures bytes { (first : First) → IfOk result (λ n. IsTrue (replay first self.new).tells
             → Reads (bytes_now (replay first self.old)) at buf.new n) }
-        ensures marks { (first : First) → (replay first self.new).content.marks ≡ (replay first self.old).content.marks }
+        ensures marks { (first : First)
+            → (replay first self.new).content.marks ≡ (replay first self.old).content.marks }
         ensures rests { (first : First)
             → WithCounts (Trusts Rests) (replay first self.old) (replay first self.new) }
     {
@@ -338,7 +346,8 @@ impl Opened {
         write_whole(&picked.file, &mut self.trace, at, bytes)
     }
 
-    /// Puts what was written to the picked file on the disk.
+    /// Puts what was written to the picked file on the disk. After a sync that failed the system may drop what was
+    /// written, and answer a later sync all the same; the journal asks nothing of the disk then.
     pub fn sync(&mut self) -> io::Result<()>
         ensures synced { OnOk result ((first : First)
             → WithCounts Syncs (replay first self.old) (replay first self.new)) }

@@ -58,7 +58,8 @@ fn write_once<F: FileExt>(
     bytes: &[u8],
 ) -> io::Result<Option<usize>>
     ensures bound { IfOk result (λ put. IfSome put (λ n. n ≤ length bytes.now)) }
-    ensures put { IfOk result (λ put. IfSome put (λ n. trace.new.calls ≡ wrote at (take n bytes.now) ∷ trace.old.calls)) }
+    ensures put { IfOk result (λ put.
+        IfSome put (λ n. trace.new.calls ≡ wrote at (take n bytes.now) ∷ trace.old.calls)) }
     ensures none { IfOk result (λ put. IfNone put (trace.new.calls ≡ trace.old.calls)) }
     ensures failed { OnErr result (trace.new.calls ≡ tore at bytes.now ∷ trace.old.calls) }
 {
