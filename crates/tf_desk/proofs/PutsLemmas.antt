@@ -10,7 +10,7 @@ use Rattle.tf_desk.specs.State.{DeskState, bytes_now, LeftNow, Passes, Tears, pa
 use Rattle.tf_desk.specs.Acts.{names}
 use Rattle.tf_desk.specs.ActLaws.{bytes_of-picked, names_picked, picked_names, torn-written}
 use Rattle.tf_desk.specs.TornLaws.{torn_none, torn_wider}
-use Rattle.tf_desk.specs.Replay.{First, replay, left_written, after_written}
+use Rattle.tf_desk.specs.Replay.{First, replay, left_torn, after_written}
 use Rattle.tf_desk.specs.Loops.{Puts, PutsSome}
 use Rattle.tf_desk.proofs.FileLemmas.{chosen}
 use Rattle.tf_desk.proofs.WrittenLemmas.{torn_within, written_none, written_on, size_written}
@@ -61,11 +61,11 @@ module _ (at n from m : ℕ) (front kept : List ℕ) (old mid : DeskState) (is :
   abbrev new : DeskState
   new = after_written from m kept mid
 
-  more_left : (name image : List ℕ) → mid.left name image → left_written from m mid name image
+  more_left : (name image : List ℕ) → mid.left name image → left_torn from m mid name image
   more_left name image left = match_by (names mid.content.picked name) ((was : List ℕ) × mid.left name was × Torn from m was image) (mid.left name image) (image, left, torn_none from m image) left
 
   left_on : (image text : List ℕ) → LeftNow mid image text → LeftNow new image text
-  left_on image text left = (left_more mid.content.picked mid.left (left_written from m mid) image more_left left.0, left.1)
+  left_on image text left = (left_more mid.content.picked mid.left (left_torn from m mid) image more_left left.0, left.1)
 
   passes_mid : Passes (LeftNow new) mid new
   passes_mid = record {

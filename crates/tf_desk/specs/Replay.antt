@@ -37,9 +37,9 @@ crashes_on s inside now start image text =
     ((start ≤ s.content.clock) × (s.crashes start image text ⊎ inside image text))
     ⊎ ((start ≤ suc s.content.clock) × now image text)
 
--- the state after a step of the clock
-abbrev pub stepped : DeskState → Pairs → DeskState → DeskState
-stepped s inside new = record new { crashes = crashes_on s inside (IsLeftNow new.content new.left new.shown) }
+-- the state after one step of the clock
+abbrev pub ticked : DeskState → Pairs → DeskState → DeskState
+ticked s inside new = record new { crashes = crashes_on s inside (IsLeftNow new.content new.left new.shown) }
 
 -- ---- an answer that the replay tells already
 
@@ -59,33 +59,33 @@ reads_empty name s = length (unwrap_or (s.content.files name) []) == 0
 -- ---- a file that is picked or made
 
 -- the files with one of that name: one that isn't there is empty
-abbrev pub files_with : List ℕ → DeskState → List ℕ → Option (List ℕ)
-files_with name s other =
+abbrev pub files_opened : List ℕ → DeskState → List ℕ → Option (List ℕ)
+files_opened name s other =
     if pointwise ◌==◌ name other then Some (unwrap_or (s.content.files other) []) else s.content.files other
 
 -- what a crash leaves then of each file: of a new one no bytes
-abbrev pub left_with : List ℕ → DeskState → List ℕ → List ℕ → Type 0
-left_with name s other image = s.left other image ⊎ ((other ≡ name) × (s.content.files other ≡ None) × (image ≡ []))
+abbrev pub left_opened : List ℕ → DeskState → List ℕ → List ℕ → Type 0
+left_opened name s other image = s.left other image ⊎ ((other ≡ name) × (s.content.files other ≡ None) × (image ≡ []))
 
 -- the file was picked; whether there was none
 abbrev pub after_opened : Bool → List ℕ → DeskState → DeskState
-after_opened none name s = stepped s nothing_left record s {
+after_opened none name s = ticked s nothing_left record s {
   tells = s.tells && (if none then reads_empty name s else is_some (s.content.files name));
   content = record {
-    files = files_with name s;
+    files = files_opened name s;
     picked = Some name;
     clock = suc s.content.clock;
     marks = s.content.marks ++ at_pick name (suc s.content.clock) ∷ [];
   };
-  left = left_with name s;
+  left = left_opened name s;
 }
 
 -- an empty file was made, and not picked
 abbrev pub after_made : List ℕ → DeskState → DeskState
-after_made name s = stepped s nothing_left record s {
+after_made name s = ticked s nothing_left record s {
   tells = s.tells && is_none (s.content.files name);
-  content = record s.content { files = files_with name s; clock = suc s.content.clock };
-  left = left_with name s;
+  content = record s.content { files = files_opened name s; clock = suc s.content.clock };
+  left = left_opened name s;
 }
 
 -- ---- bytes that are written, put on the disk or said
@@ -97,16 +97,16 @@ files_written at kept s other =
     else s.content.files other
 
 -- what a crash leaves of each file once n bytes are written to the picked one: that is torn there
-abbrev pub left_written : ℕ → ℕ → DeskState → List ℕ → List ℕ → Type 0
-left_written at n s other image =
+abbrev pub left_torn : ℕ → ℕ → DeskState → List ℕ → List ℕ → Type 0
+left_torn at n s other image =
     MatchBool (names s.content.picked other) ((was : List ℕ) × s.left other was × Torn at n was image)
     (s.left other image)
 
 -- of n bytes that were to be written these were; a crash inside the write leaves what it leaves after it
 abbrev pub after_written : ℕ → ℕ → List ℕ → DeskState → DeskState
-after_written at n kept s = stepped s (IsLeftNow s.content (left_written at n s) s.shown) record s {
+after_written at n kept s = ticked s (IsLeftNow s.content (left_torn at n s) s.shown) record s {
   content = record s.content { files = files_written at kept s; clock = suc s.content.clock };
-  left = left_written at n s;
+  left = left_torn at n s;
 }
 
 -- what a crash leaves of each file after a sync: of the picked one what is read
@@ -116,7 +116,7 @@ left_synced s other image =
 
 -- the picked file was put on the disk
 abbrev pub after_synced : DeskState → DeskState
-after_synced s = stepped s nothing_left record s {
+after_synced s = ticked s nothing_left record s {
   content = record s.content {
     clock = suc s.content.clock;
     marks = s.content.marks ++ at_sync (suc s.content.clock) ∷ [];
@@ -126,7 +126,7 @@ after_synced s = stepped s nothing_left record s {
 
 -- these bytes were said
 abbrev pub after_said : List ℕ → DeskState → DeskState
-after_said bytes s = stepped s (SaysPrefix s bytes) record s {
+after_said bytes s = ticked s (SaysPrefix s bytes) record s {
   shown = shown_with s.shown bytes;
   content = record s.content { clock = suc s.content.clock };
 }
@@ -134,21 +134,21 @@ after_said bytes s = stepped s (SaysPrefix s bytes) record s {
 -- ---- all calls
 
 -- after one call more; of a write that failed so many bytes were put
-abbrev pub after : ℕ → Call → DeskState → DeskState
-after put (opened none name) s = after_opened none name s
-after put (made name) s = after_made name s
-after put (sized n) s = after_answer (n == length (bytes_now s)) s
-after put (gave at bytes) s = after_answer (agrees (bytes_now s) at bytes) s
-after put (wrote at bytes) s = after_written at (length bytes) bytes s
-after put (tore at bytes) s = after_written at (length bytes) (take put bytes) s
-after put synced s = after_synced s
-after put (said bytes) s = after_said bytes s
+abbrev pub after_one : ℕ → Call → DeskState → DeskState
+after_one put (opened none name) s = after_opened none name s
+after_one put (made name) s = after_made name s
+after_one put (sized n) s = after_answer (n == length (bytes_now s)) s
+after_one put (gave at bytes) s = after_answer (agrees (bytes_now s) at bytes) s
+after_one put (wrote at bytes) s = after_written at (length bytes) bytes s
+after_one put (tore at bytes) s = after_written at (length bytes) (take put bytes) s
+after_one put synced s = after_synced s
+after_one put (said bytes) s = after_said bytes s
 
 -- What a desk tells after these calls, of which the newest comes first. It tells its files as long as each answer
 -- agrees with what the calls before it make of them. Its four counts stand beside the calls, and are 0 here.
 abbrev pub replay : First → List Call → DeskState
 replay first [] = at_first first
-replay first (call ∷ past) = after (first.put (length past)) call (replay first past)
+replay first (call ∷ past) = after_one (first.put (length past)) call (replay first past)
 
 -- each open, each size and each read that the system answered agrees with what the files held at first and what was
 -- written since

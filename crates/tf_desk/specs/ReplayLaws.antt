@@ -8,7 +8,7 @@ use Rattle.tf_desk.specs.State.{DeskState, LeftNow, SaysPrefix, nothing_left, by
 use Rattle.tf_desk.specs.Acts.{names}
 use Rattle.tf_desk.specs.ActLaws.{some_if, some_where, some_is, bytes_of-picked, names_picked, torn-written, read_torn, read_synced, read_made, none_torn, none_synced, none_if}
 use Rattle.tf_desk.specs.TornLaws.{torn_wider}
-use Rattle.tf_desk.specs.Replay.{First, files_with, left_with, files_written, left_written, stepped, replay}
+use Rattle.tf_desk.specs.Replay.{First, files_opened, left_opened, files_written, left_torn, ticked, replay}
 use Rattle.tf_desk.specs.FileDesk.{said_in}
 
 -- ---- the text shown
@@ -40,29 +40,29 @@ pub record IsNow (s : DeskState) : Type 0 where
       → s.crashes start image text
   pub only : (image text : List ℕ) → s.crashes s.content.clock image text → LeftNow s image text
 
-is_stepped : (s : DeskState) (inside : Pairs) (new : DeskState) → new.content.clock ≡ suc s.content.clock → IsNow s
-    → IsNow (stepped s inside new)
-is_stepped s inside new clock was = record {
+is_ticked : (s : DeskState) (inside : Pairs) (new : DeskState) → new.content.clock ≡ suc s.content.clock → IsNow s
+    → IsNow (ticked s inside new)
+is_ticked s inside new clock was = record {
   timely = λ start image text left. late start image text left;
   earlier = λ early late image text le left. before early late image text le left;
   now = λ start image text le left. inr (omega (arith, le, clock), left);
   only = only;
 }
   where
-    late : (start : ℕ) (image text : List ℕ) → (stepped s inside new).crashes start image text
+    late : (start : ℕ) (image text : List ℕ) → (ticked s inside new).crashes start image text
         → start ≤ new.content.clock
     late start image text (inl then_) = omega (arith, then_.0, clock)
     late start image text (inr here) = omega (arith, here.0, clock)
 
     before : (early late : ℕ) (image text : List ℕ) → early ≤ late
-        → (stepped s inside new).crashes late image text → (stepped s inside new).crashes early image text
+        → (ticked s inside new).crashes late image text → (ticked s inside new).crashes early image text
     before early late image text le (inl (at, inl crashed)) =
         inl (omega (arith, le, at), inl (was.earlier early late image text le crashed))
     before early late image text le (inl (at, inr within)) = inl (omega (arith, le, at), inr within)
     before early late image text le (inr here) = inr (omega (arith, le, here.0), here.1)
 
-    only : (image text : List ℕ) → (stepped s inside new).crashes new.content.clock image text
-        → LeftNow (stepped s inside new) image text
+    only : (image text : List ℕ) → (ticked s inside new).crashes new.content.clock image text
+        → LeftNow (ticked s inside new) image text
     only image text (inl then_) = absurd (omega (arith, then_.0, clock))
     only image text (inr here) = here.1
 
@@ -77,46 +77,46 @@ is_now first [] = record {
       λ image text left. left.1;
 }
 is_now first (opened none name ∷ past) =
-    is_stepped (replay first past) nothing_left (replay first (opened none name ∷ past)) refl (is_now first past)
+    is_ticked (replay first past) nothing_left (replay first (opened none name ∷ past)) refl (is_now first past)
 is_now first (made name ∷ past) =
-    is_stepped (replay first past) nothing_left (replay first (made name ∷ past)) refl (is_now first past)
+    is_ticked (replay first past) nothing_left (replay first (made name ∷ past)) refl (is_now first past)
 is_now first (sized n ∷ past) =
     let s = is_now first past in record { timely = s.timely; earlier = s.earlier; now = s.now; only = s.only }
 is_now first (gave at bytes ∷ past) =
     let s = is_now first past in record { timely = s.timely; earlier = s.earlier; now = s.now; only = s.only }
 is_now first (wrote at bytes ∷ past) =
     let s = replay first past in
-    is_stepped s (IsLeftNow s.content (left_written at (length bytes) s) s.shown) (replay first (wrote at bytes ∷ past))
+    is_ticked s (IsLeftNow s.content (left_torn at (length bytes) s) s.shown) (replay first (wrote at bytes ∷ past))
     refl (is_now first past)
 is_now first (tore at bytes ∷ past) =
     let s = replay first past in
-    is_stepped s (IsLeftNow s.content (left_written at (length bytes) s) s.shown) (replay first (tore at bytes ∷ past))
+    is_ticked s (IsLeftNow s.content (left_torn at (length bytes) s) s.shown) (replay first (tore at bytes ∷ past))
     refl (is_now first past)
 is_now first (synced ∷ past) =
-    is_stepped (replay first past) nothing_left (replay first (synced ∷ past)) refl (is_now first past)
+    is_ticked (replay first past) nothing_left (replay first (synced ∷ past)) refl (is_now first past)
 is_now first (said bytes ∷ past) =
-    is_stepped (replay first past) (SaysPrefix (replay first past) bytes) (replay first (said bytes ∷ past)) refl
+    is_ticked (replay first past) (SaysPrefix (replay first past) bytes) (replay first (said bytes ∷ past)) refl
     (is_now first past)
 
 -- ---- the files
 
 -- the picked name has a file
-abbrev pub HasFile : DeskState → Type 0
-HasFile s = (name : List ℕ) → s.content.picked ≡ Some name → is_some (s.content.files name) ≡ true
+abbrev pub HasPickedFile : DeskState → Type 0
+HasPickedFile s = (name : List ℕ) → s.content.picked ≡ Some name → is_some (s.content.files name) ≡ true
 
 -- so it has where a file was made
-pub has_with : (s : DeskState) (new : List ℕ) → HasFile s → (name : List ℕ) → s.content.picked ≡ Some name
-    → is_some (files_with new s name) ≡ true
+pub has_with : (s : DeskState) (new : List ℕ) → HasPickedFile s → (name : List ℕ) → s.content.picked ≡ Some name
+    → is_some (files_opened new s name) ≡ true
 has_with s new has name is =
     some_if (pointwise ◌==◌ new name) (unwrap_or (s.content.files name) []) (s.content.files name) (has name is)
 
-pub has_written : (s : DeskState) (at : ℕ) (kept : List ℕ) → HasFile s → (name : List ℕ)
+pub has_written : (s : DeskState) (at : ℕ) (kept : List ℕ) → HasPickedFile s → (name : List ℕ)
     → s.content.picked ≡ Some name → is_some (files_written at kept s name) ≡ true
 has_written s at kept has name is =
     some_if (names s.content.picked name) (written (unwrap_or (s.content.files name) []) at kept)
     (s.content.files name) (has name is)
 
-pub has_file : (first : First) (past : List Call) → HasFile (replay first past)
+pub has_file : (first : First) (past : List Call) → HasPickedFile (replay first past)
 has_file first [] name is = cc
 has_file first (opened none new ∷ past) name is =
     let same : new ≡ name = cc in
@@ -148,13 +148,13 @@ abbrev pub ReadsLeft : DeskState → Type 0
 ReadsLeft s = (name bytes : List ℕ) → s.content.files name ≡ Some bytes → s.left name bytes
 
 reads_with : (s : DeskState) (new : List ℕ) → ReadsLeft s → (name bytes : List ℕ)
-    → files_with new s name ≡ Some bytes → left_with new s name bytes
+    → files_opened new s name ≡ Some bytes → left_opened new s name bytes
 reads_with s new reads name bytes is =
     read_made (pointwise ◌==◌ new name) (s.content.files name) new name bytes (s.left name)
     (bytes_decides new name).0 (λ was there. reads name was there) is
 
-reads_written : (s : DeskState) (at n : ℕ) (kept : List ℕ) → length kept ≤ n → HasFile s → ReadsLeft s
-    → (name bytes : List ℕ) → files_written at kept s name ≡ Some bytes → left_written at n s name bytes
+reads_written : (s : DeskState) (at n : ℕ) (kept : List ℕ) → length kept ≤ n → HasPickedFile s → ReadsLeft s
+    → (name bytes : List ℕ) → files_written at kept s name ≡ Some bytes → left_torn at n s name bytes
 reads_written s at n kept short has reads name bytes is =
     read_torn (names s.content.picked name) (s.content.files name) (s.left name) at n kept bytes
     (λ same. has name (names_picked s.content.picked name same)) (λ was there. reads name was there)
@@ -185,8 +185,8 @@ left_reads first (said part ∷ past) name bytes is = left_reads first past name
 abbrev pub LeavesNone : DeskState → Type 0
 LeavesNone s = (name image : List ℕ) → s.content.files name ≡ None → s.left name image → ⊥
 
-none_with : (s : DeskState) (new : List ℕ) → LeavesNone s → (name image : List ℕ) → files_with new s name ≡ None
-    → left_with new s name image → ⊥
+none_with : (s : DeskState) (new : List ℕ) → LeavesNone s → (name image : List ℕ) → files_opened new s name ≡ None
+    → left_opened new s name image → ⊥
 none_with s new none name image is (inl left) =
     none name image
     (none_if (pointwise ◌==◌ new name) (s.content.files name) (unwrap_or (s.content.files name) []) is).1 left
@@ -197,7 +197,7 @@ none_with s new none name image is (inr empty) =
     cc
 
 none_written : (s : DeskState) (at n : ℕ) (kept : List ℕ) → LeavesNone s → (name image : List ℕ)
-    → files_written at kept s name ≡ None → left_written at n s name image → ⊥
+    → files_written at kept s name ≡ None → left_torn at n s name image → ⊥
 none_written s at n kept none name image is left =
     none_torn (names s.content.picked name) (s.content.files name)
     (written (unwrap_or (s.content.files name) []) at kept)
