@@ -34,7 +34,7 @@ fn main(rt: HostRuntime) -> ExitCode {
         }
     };
     let outside = Outside {
-        desk: FileDesk::make(rt, access_of(&words)),
+        desk: FileDesk::<HostRuntime, Brand>::make(rt, access_of(&words)),
         sources: Folder::<HostRuntime, Brand>::make(rt),
         crew: ProgramCrew::make(rt, SocketDialer::make(rt)),
         door: SocketDoor::make(rt),

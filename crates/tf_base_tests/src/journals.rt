@@ -3,6 +3,7 @@ ghost use Rattle.tf_desk.specs.Acts.{content_after};
 ghost use Rattle.tf_desk.specs.Crash.{bytes_of};
 
 use std::alloc::Global;
+use std::marker::Brand;
 use std::process::Abort;
 use std::test::Fail;
 use tf_desk::{Access, Desk, FileDesk, MemoryDesk};
@@ -87,7 +88,7 @@ fn a_full_journal_refuses_by_its_two_numbers(rt: HostRuntime) -> Result<(), Fail
     let alloc = rt.alloc();
     let body = sevens(alloc, 1_048_576)?;
     let last = sevens(alloc, 1_048_230)?;
-    let Ok(mut journal) = Journal::volatile(alloc, FileDesk::make(rt.clone()?, Access::Own)) else {
+    let Ok(mut journal) = Journal::volatile(alloc, FileDesk::<HostRuntime, Brand>::make(rt.clone()?, Access::Own)) else {
         return Err(Fail::from("not made"));
     };
     for _ in 0..63 {

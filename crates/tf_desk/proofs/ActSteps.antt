@@ -1,34 +1,13 @@
 -- What an act does, beyond what it says at once.
-use Rattle.std.proofs.Common.{◌≡◌, ◌≢◌, ◌⊎◌, ℕ, ◌+◌, ◌-◌, ◌≤◌, Bool, true, false, MatchBool, IsSome, List, [], ◌∷◌, length, take, drop, Option, Some, None, unwrap_or, inl, inr, refl, sym, ◌∙◌, ap, subst, arith}
-use Rattle.std.proofs.lemmas.List.{take_all, drop-drop}
+use Rattle.std.proofs.Common.{◌≡◌, ◌≢◌, ◌⊎◌, ℕ, ◌+◌, ◌≤◌, Bool, true, false, MatchBool, IsSome, List, [], ◌∷◌, length, Option, Some, None, unwrap_or, inl, inr, refl, sym, ◌∙◌, ap, subst, arith}
 use Rattle.tf_desk.specs.Crash.{at_pick, at_sync, bytes_of, written, Torn, LeavesNoMore}
 use Rattle.tf_desk.specs.MemoryDesk.{Held, state_of}
 use Rattle.tf_desk.specs.State.{LeftNow, Tears, Rests, OnDisk, nothing_left}
 use Rattle.tf_desk.specs.Acts.{Act, wrote, synced, picked, names, picked_after, files_after, content_after, left_after, leaves_now, crashes_after}
 use Rattle.tf_desk.specs.ActLaws.{torn-written, bytes_of-picked, picked_names, names_picked, left_reads, crashes_now}
+use Rattle.tf_desk.specs.TornLaws.{torn_none, torn_wider}
 use Rattle.tf_desk.proofs.FileLemmas.{chosen, passed}
 use Rattle.tf_desk.proofs.StateLemmas.{left_alike, on_disk_none}
-
--- nothing written is among what a write leaves that is cut short
-pub torn_none : (at n : ℕ) (old : List ℕ) → Torn at n old old
-torn_none at n old = record {
-  no_shorter = omega arith;
-  no_longer = omega arith;
-  before = ap (take at) (take_all (length old) old (omega arith));
-  after = ap (drop (at + n)) (take_all (length old) old (omega arith));
-}
-
--- what a short write leaves, a longer one may leave
-pub torn_wider : (at n m : ℕ) (old new : List ℕ) → n ≤ m → Torn at n old new → Torn at m old new
-torn_wider at n m old new le torn = record {
-  no_shorter = torn.no_shorter;
-  no_longer = omega (arith, le, torn.no_longer);
-  before = torn.before;
-  after = further (take (length old) new) ∙ ap (drop (m - n)) torn.after ∙ sym (further old);
-}
-  where
-    further : (l : List ℕ) → drop (at + m) l ≡ drop (m - n) (drop (at + n) l)
-    further l = let sum : at + m ≡ (at + n) + (m - n) = omega (arith, le) in ap (λ (k : ℕ). drop k l) sum ∙ sym (drop-drop (m - n) (at + n) l)
 
 -- what reads after a write into the picked file
 wrote_reads : (past : List Act) (name : List ℕ) (at : ℕ) (bytes : List ℕ) → picked_after past ≡ Some name

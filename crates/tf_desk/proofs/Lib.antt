@@ -8,3 +8,9 @@ pub mod LogLemmas
 pub mod CrashedLemmas
 pub mod OtherLemmas
 pub mod LeavesLemmas
+pub mod WrittenLemmas
+pub mod OptionLemmas
+pub mod PutsLemmas
+pub mod SaysLemmas
+pub mod ReadsLemmas
+pub mod ReplaySteps

@@ -1,16 +1,10 @@
--- Lemmas on bytes that are written or read in parts.
+-- Lemmas on bytes that are read in parts.
 use Rattle.std.proofs.Common.{◌≡◌, ℕ, ◌+◌, ◌-◌, ◌≤◌, List, ◌++◌, length, take, drop, Option, None, Some, sym, ◌∙◌, ap, subst, arith, rules, append_assoc, length-take}
-use Rattle.std.proofs.lemmas.List.{take-take, take-append-le, drop_at, places}
+use Rattle.std.proofs.lemmas.List.{take-append-le, drop_at, places}
 use Rattle.std.proofs.Math.Seq.{take-add}
 use Rattle.std.proofs.lemmas.Slice.{take-put_mid_below}
 use borrow.Rule.Slice.PartMut.{put_mid, post_of}
-use Rattle.std.specs.Io.KnownBytes.{Appends, Consumes, Keeps}
-
-appends_on : (a b c : Option (List ℕ)) (bs cs : List ℕ) → Appends a b bs → Appends b c cs → Appends a c (bs ++ cs)
-appends_on None b c bs cs p q = tt
-appends_on (Some x) None c bs cs p q = absurd p
-appends_on (Some x) (Some y) None bs cs p q = absurd q
-appends_on (Some x) (Some y) (Some z) bs cs p q = q ∙ ap (λ (l : List ℕ). l ++ cs) p ∙ append_assoc x bs cs
+use Rattle.std.specs.Io.KnownBytes.{Consumes, Keeps}
 
 consumes_on : (a b c : Option (List ℕ)) (bs cs : List ℕ) → Consumes a b bs → Consumes b c cs → Consumes a c (bs ++ cs)
 consumes_on None b c bs cs p q = tt
@@ -18,28 +12,14 @@ consumes_on (Some x) None c bs cs p q = absurd p
 consumes_on (Some x) (Some y) None bs cs p q = absurd q
 consumes_on (Some x) (Some y) (Some z) bs cs p q = p ∙ ap (λ (l : List ℕ). bs ++ l) q ∙ sym (append_assoc bs cs z)
 
-pub appends_kept : (a b c : Option (List ℕ)) (bs : List ℕ) → Appends a b bs → Keeps b c → Appends a c bs
-appends_kept None b c bs p q = tt
-appends_kept (Some x) None c bs p q = absurd p
-appends_kept (Some x) (Some y) None bs p q = absurd q
-appends_kept (Some x) (Some y) (Some z) bs p q = q ∙ p
-
 consumes_kept : (a b c : Option (List ℕ)) (bs : List ℕ) → Consumes a b bs → Keeps b c → Consumes a c bs
 consumes_kept None b c bs p q = tt
 consumes_kept (Some x) None c bs p q = absurd p
 consumes_kept (Some x) (Some y) None bs p q = absurd q
 consumes_kept (Some x) (Some y) (Some z) bs p q = p ∙ ap (λ (l : List ℕ). bs ++ l) (sym q)
 
--- n bytes more were appended
-pub appended_more : (a b c : Option (List ℕ)) (bytes : List ℕ) (done n : ℕ) → n ≤ length bytes - done
-    → Appends a b (take done bytes) → Appends b c (take n (take (length bytes - done) (drop done bytes))) → Appends a c (take (done + n) bytes)
-appended_more a b c bytes done n le first second =
-    let part : take n (take (length bytes - done) (drop done bytes)) ≡ take n (drop done bytes) = take-take n (length bytes - done) (drop done bytes) le in
-    let whole : take done bytes ++ take n (take (length bytes - done) (drop done bytes)) ≡ take (done + n) bytes = ap (λ (l : List ℕ). take done bytes ++ l) part ∙ sym (take-add done n bytes) in
-    subst (Appends a c) whole (appends_on a b c (take done bytes) (take n (take (length bytes - done) (drop done bytes))) first second)
-
 -- what stands first in a buffer stays there when what is behind it is filled
-prefix_stays : (buf new : List ℕ) (done : ℕ) → done ≤ length buf → take done (put_mid done (length buf - done) buf new) ≡ take done buf
+pub prefix_stays : (buf new : List ℕ) (done : ℕ) → done ≤ length buf → take done (put_mid done (length buf - done) buf new) ≡ take done buf
 prefix_stays buf new done le = take-put_mid_below done (length buf - done) buf new done (omega arith) le
 
 -- a buffer keeps its length when what is behind its prefix is filled

@@ -42,12 +42,12 @@ crashes_only (act ∷ past) image text (inr (inr before)) =
 
 -- ---- the files
 
-some_if : (b : Bool) (new : List ℕ) (file : Option (List ℕ)) → is_some file ≡ true
+pub some_if : (b : Bool) (new : List ℕ) (file : Option (List ℕ)) → is_some file ≡ true
     → is_some (if b then Some new else file) ≡ true
 some_if true new file is = refl
 some_if false new file is = is
 
-some_where : (b : Bool) (new : List ℕ) (file : Option (List ℕ)) → b ≡ true
+pub some_where : (b : Bool) (new : List ℕ) (file : Option (List ℕ)) → b ≡ true
     → is_some (if b then Some new else file) ≡ true
 some_where true new file is = refl
 some_where false new file is = cc
@@ -66,7 +66,7 @@ has_file (wrote at bytes ∷ past) name is =
 has_file (synced ∷ past) name is = has_file past name is
 has_file (said bytes ∷ past) name is = has_file past name is
 
-some_is : (file : Option (List ℕ)) → is_some file ≡ true → file ≡ Some (unwrap_or file [])
+pub some_is : (file : Option (List ℕ)) → is_some file ≡ true → file ≡ Some (unwrap_or file [])
 some_is None is = cc
 some_is (Some bytes) is = refl
 
@@ -129,27 +129,27 @@ torn-written old at bytes = record {
 -- ---- what a crash may leave of a file
 
 -- the same where a name is the picked one or isn't
-read_torn : (b : Bool) (file : Option (List ℕ)) (left : List ℕ → Type 0) (at : ℕ) (bytes now : List ℕ)
+pub read_torn : (b : Bool) (file : Option (List ℕ)) (left : List ℕ → Type 0) (at n : ℕ) (kept now : List ℕ)
     → (b ≡ true → is_some file ≡ true) → ((was : List ℕ) → file ≡ Some was → left was)
-    → (if b then Some (written (unwrap_or file []) at bytes) else file) ≡ Some now
-    → MatchBool b ((was : List ℕ) × left was × Torn at (length bytes) was now) (left now)
-read_torn true file left at bytes now there was_left is =
+    → ((was : List ℕ) → Torn at n was (written was at kept))
+    → (if b then Some (written (unwrap_or file []) at kept) else file) ≡ Some now
+    → MatchBool b ((was : List ℕ) × left was × Torn at n was now) (left now)
+read_torn true file left at n kept now there was_left torn is =
     let whole = some_is file (there refl) in
-    let torn = torn-written (unwrap_or file []) at bytes in
-    let same : written (unwrap_or file []) at bytes ≡ now = cc in (
+    let same : written (unwrap_or file []) at kept ≡ now = cc in (
       unwrap_or file [],
       was_left (unwrap_or file []) whole,
       subst
-          (λ (new : List ℕ). Torn at (length bytes) (unwrap_or file []) new) same torn,
+          (λ (new : List ℕ). Torn at n (unwrap_or file []) new) same (torn (unwrap_or file [])),
     )
-read_torn false file left at bytes now there was_left is = was_left now is
+read_torn false file left at n kept now there was_left torn is = was_left now is
 
-read_synced : (b : Bool) (file : Option (List ℕ)) (left : List ℕ → Type 0) (now : List ℕ)
+pub read_synced : (b : Bool) (file : Option (List ℕ)) (left : List ℕ → Type 0) (now : List ℕ)
     → ((was : List ℕ) → file ≡ Some was → left was) → file ≡ Some now → MatchBool b (file ≡ Some now) (left now)
 read_synced true file left now was_left is = is
 read_synced false file left now was_left is = was_left now is
 
-read_made : (b : Bool) (file : Option (List ℕ)) (new name now : List ℕ) (left : List ℕ → Type 0)
+pub read_made : (b : Bool) (file : Option (List ℕ)) (new name now : List ℕ) (left : List ℕ → Type 0)
     → (b ≡ true → new ≡ name) → ((was : List ℕ) → file ≡ Some was → left was)
     → (if b then Some (unwrap_or file []) else file) ≡ Some now → left now ⊎ ((name ≡ new) × (file ≡ None) × (now ≡ []))
 read_made true None new name now left same was_left is = let empty : now ≡ [] = cc in inr (sym (same refl), refl, empty)
@@ -163,25 +163,25 @@ left_reads (picked new ∷ past) name bytes is =
     read_made (pointwise ◌==◌ new name) (files_after past name) new name bytes (left_after past name)
     (bytes_decides new name).0 (λ was there. left_reads past name was there) is
 left_reads (wrote at new ∷ past) name bytes is =
-    read_torn (names (picked_after past) name) (files_after past name) (left_after past name) at new bytes
+    read_torn (names (picked_after past) name) (files_after past name) (left_after past name) at (length new) new bytes
     (λ same. has_file past name (names_picked (picked_after past) name same))
-    (λ was there. left_reads past name was there) is
+    (λ was there. left_reads past name was there) (λ was. torn-written was at new) is
 left_reads (synced ∷ past) name bytes is =
     read_synced (names (picked_after past) name) (files_after past name) (left_after past name) bytes
     (λ was there. left_reads past name was there) is
 left_reads (said new ∷ past) name bytes is = left_reads past name bytes is
 
-none_torn : (b : Bool) (file : Option (List ℕ)) (new : List ℕ) (P Q : Type 0) → (if b then Some new else file) ≡ None
-    → (file ≡ None → Q → ⊥) → MatchBool b P Q → ⊥
+pub none_torn : (b : Bool) (file : Option (List ℕ)) (new : List ℕ) (P Q : Type 0)
+    → (if b then Some new else file) ≡ None → (file ≡ None → Q → ⊥) → MatchBool b P Q → ⊥
 none_torn true file new P Q is none left = cc
 none_torn false file new P Q is none left = none is left
 
-none_synced : (b : Bool) (file : Option (List ℕ)) (now : List ℕ) (Q : Type 0) → file ≡ None → (Q → ⊥)
+pub none_synced : (b : Bool) (file : Option (List ℕ)) (now : List ℕ) (Q : Type 0) → file ≡ None → (Q → ⊥)
     → MatchBool b (file ≡ Some now) Q → ⊥
 none_synced true file now Q is none left = cc
 none_synced false file now Q is none left = none left
 
-none_if : (b : Bool) (file : Option (List ℕ)) (new : List ℕ) → (if b then Some new else file) ≡ None → (b ≡ false)
+pub none_if : (b : Bool) (file : Option (List ℕ)) (new : List ℕ) → (if b then Some new else file) ≡ None → (b ≡ false)
     × (file ≡ None)
 none_if true file new is = cc
 none_if false file new is = (refl, is)

@@ -1,12 +1,13 @@
--- What a desk tells that tells nothing of its files.
+-- What a desk over files has noted and said, and what a desk tells that tells nothing of its files.
 use Rattle.std.specs.Prelude.{◌≡◌, ℕ, List, [], ◌∷◌, ◌++◌, length, take, Result, OnOk, ⊤, Option, None, false}
-use Rattle.tf_trace.specs.Calls.{Call, opened, sized, gave, wrote, tore, synced, said}
+use Rattle.tf_trace.specs.Calls.{Call, opened, made, sized, gave, wrote, tore, synced, said}
 use Rattle.tf_desk.specs.State.{DeskState}
 
 -- what was written to standard output
 abbrev pub said_in : List Call → List ℕ
 said_in [] = []
-said_in (opened made name ∷ past) = said_in past
+said_in (opened none name ∷ past) = said_in past
+said_in (made name ∷ past) = said_in past
 said_in (sized n ∷ past) = said_in past
 said_in (gave at bytes ∷ past) = said_in past
 said_in (wrote at bytes ∷ past) = said_in past

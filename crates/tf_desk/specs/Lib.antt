@@ -6,4 +6,10 @@ pub mod MemoryDesk
 pub mod Sound
 pub mod Crashed
 pub mod Streams
+pub mod Replay
+pub mod TornLaws
+pub mod ReplayLaws
+pub mod Loops
+pub mod Picked
 pub mod FileDesk
+pub mod Calls

@@ -5,13 +5,12 @@ ghost use Rattle.tf_ports.specs.Ports.{GivesBytes, PassesLimit, TellsStill};
 ghost use Rattle.tf_numbers.specs.Numbers.{Rises};
 
 use crate::reading::{SOURCE_LIMIT, SourceFault, Sources};
-use crate::worlds::World;
 use std::alloc::Global;
 use std::fs;
 use std::io::{Eprint, Error, ErrorKind, Read};
 use std::marker::PhantomData;
 use std::rt::Files;
-use tf_desk::{read_on, tell_reason};
+use tf_desk::{World, read_on, tell_reason};
 use tf_log::Log;
 use tf_values::Text;
 

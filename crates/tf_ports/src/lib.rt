@@ -17,7 +17,6 @@ mod memory_spawner;
 mod programs;
 mod reading;
 mod sockets;
-mod worlds;
 
 pub use children::Children;
 pub use crews::{Address, Addresses, Crew, Hands, PortFault, Want};
@@ -36,4 +35,3 @@ pub use programs::{Done, Output, ProgramRun, SpawnFault, Spawner};
 pub use reading::{SourceFault, Sources};
 pub use sockets::{SocketDialer, SocketDoor, SocketLink};
 pub use tf_actions::{Action, Args, Given, Order, Outcome, Pair, Performer};
-pub use worlds::World;

@@ -1,35 +1,36 @@
-use Rattle.std.proofs.Common.{◌≡◌, ◌≤◌, length, ℕ, ◌+◌, ◌-◌, ◌++◌, List, take, drop, sym, ◌∙◌, ap, arith, append_assoc, length-take, length-drop, slice_range}
-use Rattle.std.proofs.Math.Seq.{take-add}
-use Rattle.tf_trace.specs.Calls.{Call}
-use Rattle.tf_desk.specs.FileDesk.{said_in}
+use Rattle.std.proofs.Common.{◌≡◌, ◌≤◌, length, ℕ, ◌+◌, ◌-◌, List, ◌∷◌, take, drop, sym, subst, arith, length-take, length-drop}
+use Rattle.tf_trace.specs.Calls.{Call, said}
+use Rattle.tf_desk.specs.Replay.{replay}
+use Rattle.tf_desk.specs.Loops.{SaysFront}
+use Rattle.tf_desk.proofs.OptionLemmas.{some_holds, none_holds}
+use Rattle.tf_desk.proofs.SaysLemmas.{says_on, part_of}
 use Rattle.tf_desk.proofs.streams.say_whole.Goals as goal
-use Rattle.tf_desk.proofs.streams.say_whole.Goals.{in-Ok, in-Err+else-not-is_interrupted}
-
-range_size : (bytes : List ℕ) (i j : ℕ) → i ≤ j → j ≤ length bytes → length (slice_range bytes i j) ≡ j - i
-range_size bytes i j le within = omega (arith, le, within, length-take (j - i) (drop i bytes), length-drop i bytes)
+use Rattle.tf_desk.proofs.streams.say_whole.Goals.{in-Some, in-None}
 
 pub loop-preserved : goal.loop-preserved
 loop-preserved g c =
     let bytes = c.args.bytes.now in
     let done = c.loop.done in
-    let inv = c.loop.invariant in
-    let old = said_in c.args.trace.now.calls in
-    elim c.match-write_some.branch [
-      | in-Ok w ↦
-          let n = w.in-Ok.n in
-          let part = slice_range bytes done (done + n) in
-          let within : done + n ≤ length bytes = omega (arith, w.in-Ok.ensures.bound, range_size bytes done (length bytes) inv.within (omega arith), inv.within) in
-          let sum : (done + n) - done ≡ n = omega arith in
+    let old = c.args.trace.now.calls in
+    let past = c.loop.trace.calls in
+    let rest = take (length bytes - done) (drop done bytes) in
+    elim c.match-branch-2.branch [
+      | in-Some w ↦
+          let n = w.in-Some.n in
+          let put = c.in_ok-say_once.field-0 in
+          let fits = some_holds (λ k. k ≤ length rest) put n w.in-Some.is c.in_ok-say_once.ensures.bound in
+          let calls = some_holds (λ k. c.say_once.new.trace.calls ≡ said (take k rest) ∷ past) put n w.in-Some.is c.in_ok-say_once.ensures.put in
           record {
-            within = omega (arith, w.done-is, within);
-            front =
-                ap (λ t. said_in t.calls) w.trace-is ∙ ap (λ (calls : List Call). said_in calls) w.said.ensures
-                ∙ ap (λ (l : List ℕ). l ++ part) inv.front ∙ append_assoc old (take done bytes) part
-                ∙ ap (λ (k : ℕ). old ++ (take done bytes ++ take k (drop done bytes))) sum
-                ∙ ap (λ (l : List ℕ). old ++ l) (sym (take-add done n bytes)) ∙ ap (λ (k : ℕ). old ++ take k bytes) (sym w.done-is);
+            within = omega (arith, w.done-is, fits, c.loop.invariant.within, length-take (length bytes - done) (drop done bytes), length-drop done bytes);
+            says = λ first.
+                subst (λ (k : ℕ). SaysFront bytes k (replay first old) (replay first c.say_once.new.trace.calls)) (sym w.done-is)
+                (subst (λ (k : List Call). SaysFront bytes (done + n) (replay first old) (replay first k)) (sym calls)
+                (says_on bytes (take n rest) done n (replay first old) (replay first past) (part_of bytes done n fits) (c.loop.invariant.says first)));
           }
-      | in-Err+else-not-is_interrupted w ↦ record {
-        within = omega (arith, w.done-is, inv.within);
-        front = ap (λ t. said_in t.calls) w.trace-is ∙ inv.front ∙ ap (λ (k : ℕ). old ++ take k bytes) (sym w.done-is);
-      }
+      | in-None w ↦
+          let calls = none_holds (c.say_once.new.trace.calls ≡ past) c.in_ok-say_once.field-0 w.in-None.is c.in_ok-say_once.ensures.none in
+          record {
+            within = omega (arith, w.done-is, c.loop.invariant.within);
+            says = λ first. rw (w.done-is, calls) (c.loop.invariant.says first);
+          }
     ]

@@ -1,4 +1,5 @@
-ghost use Rattle.std.specs.Prelude.{ℕ, List, Option, None};
+ghost use Rattle.std.specs.Prelude.{ℕ, List, Option, None, false};
+ghost use Rattle.tf_desk.specs.Replay.{First};
 
 use std::marker::Brand;
 
@@ -7,9 +8,14 @@ use std::marker::Brand;
 pub trait World {
     /// The bytes under each name that the sources have; None where they have none.
     ghost sources: { List ℕ → Option (List ℕ) };
+
+    /// What the files of the desk held at first, and what no call of it can tell.
+    ghost first: { First };
 }
 
 /// The world that a program names, as it has to name one: nothing is claimed by it.
 impl World for Brand {
     ghost sources = { λ name. None };
+
+    ghost first = { record { files = λ name. None; left = λ name image. false; put = λ call. 0 } };
 }
