@@ -26,7 +26,7 @@ module _ {K : Type 0} (state : K → DeskState) (gives : Want → Order → Outc
   carried_stands old new last call is (migrate.begun plan past _ message _ held young (migrate.filled size need full) out ends lasts) life = absurd (never_closes is (λ n. omega arith) ends)
   carried_stands old new last call is (migrate.begun plan past _ message _ held young migrate.write_failed out ends lasts) life = absurd (never_closes is (λ n. omega arith) ends)
   carried_stands old new last call is (migrate.begun plan past _ message _ held young migrate.migrated out ends lasts) life =
-      let h = held call.tells in
-      let now : HoldsElements (carried plan past) (book_at (state call.now) new) = record { is = (lasts call.tells).file; legal = carried_legal plan past h.history } in
+      let h = held call.told in
+      let now : HoldsElements (carried plan past) (book_at (state call.now) new) = record { is = (lasts call.told).file; legal = carried_legal plan past h.history } in
       let grown = life_grows state gives new (file_of (state call.now) new) last life (carried plan past) now in
       record { plan = plan; past = past; had = h; stands = (grown.0, grown.1) }

@@ -27,10 +27,10 @@ module _ {K : Type 0} (state : K → DeskState) (gives : Want → Order → Outc
   done_stands call request is life (board.answered before legal may has ends) = record {
     past = before;
     legal = legal;
-    had = has call.tells;
+    had = has call.told;
     said = said_whole is ends.closes;
     stands = stands_on (file_of (state call.now) name) life (answer_of request before).added before
-        (may, either_one ((answer_of request before).added ++ before) (file_of (state call.now) name) (ends.lasts call.tells).file);
+        (may, either_one ((answer_of request before).added ++ before) (file_of (state call.now) name) (ends.lasts call.told).file);
   }
   done_stands call request is life (board.unrecorded before legal has out ends) = absurd (never_closes is (λ n. omega arith) ends.closes)
   done_stands call request is life (board.disk_failed before legal may has ends) = absurd (never_closes is (λ n. omega arith) ends.closes)

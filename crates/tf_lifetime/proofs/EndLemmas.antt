@@ -219,7 +219,7 @@ pub call_ends : {K : Type 0} (state : K → DeskState) (gives : Want → Order �
 call_ends {K} state gives name wanted hands call contents plan past asks holds unfailing = by call.behaviour
   where
     complete : IsRunComplete call.status
-    complete = call.complete (asked.Resume name wanted hands None) asks (call.tells, has_flow holds) unfailing.unasked (λ work. unfailing.door) unfailing.counts
+    complete = call.complete (asked.Resume name wanted hands None) asks (call.told, has_flow holds) unfailing.unasked (λ work. unfailing.door) unfailing.counts
 
     obeyed_so : (command : Asked) → command ≡ asked.Resume name wanted hands None
         → Obeys state gives (WasAsked (state call.entry) (state call.now)) command call.files call.ports call.later call.entry call.now call.status

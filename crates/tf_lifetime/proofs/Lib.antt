@@ -1,3 +1,4 @@
+pub mod ToldLemmas
 pub mod OnceLemmas
 pub mod EntryLemmas
 pub mod GrowthLemmas

@@ -166,8 +166,8 @@ module _ {K : Type 0} (state : K → DeskState) (gives : Want → Order → Outc
       → WasClaimed name id second (state two.entry) (state two.now) two.status
       → IsHandedOn id first second (file_of (state one.entry) name) (file_of (state two.now) name)
   handed_on name id first second one two was life is =
-      let a = claimed name id first (state one.entry) (state one.now) one.status one.tells was in
-      let b = claimed name id second (state two.entry) (state two.now) two.status two.tells is in
+      let a = claimed name id first (state one.entry) (state one.now) one.status one.told was in
+      let b = claimed name id second (state two.entry) (state two.now) two.status two.told is in
       let claim = applied a.past action.Claim id first in
       let grew = life_adds_legally state gives name (file_of (state one.now) name) (file_of (state two.entry) name) life claim a.past a.stands in
       let past_is : b.past ≡ grew.0 ++ (claim ∷ a.past) =

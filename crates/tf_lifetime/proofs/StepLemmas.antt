@@ -29,6 +29,7 @@ use Rattle.tf_lifetime.proofs.NameLemmas.{name_same}
 use Rattle.tf_model.specs.Plan.{outline_of}
 use Rattle.tf_lifetime.proofs.GivenLemmas.{GivesAll, pending_given, given_older}
 use Rattle.tf_lifetime.proofs.GrowthLemmas.{Grown, Behind, behind_held, behind_begun, held_elements, book_elements, grown_by, grown_since}
+use Rattle.tf_lifetime.proofs.ToldLemmas.{same_entry}
 use Rattle.tf_lifetime.proofs.WayLemmas.{Way, alone, recorded, began, unmade, jobs, served_jobs, way_others, Carried, Goes, untouched, about, carried, itself, obeys_goes}
 use Rattle.tf_board.proofs.StayLemmas.{some_body}
 use Rattle.tf_lifetime.proofs.TitleLemmas.{no_board_too, no_book_too, neither_bodies, neither_unborn}
@@ -201,8 +202,8 @@ module _ {K : Type 0} (state : K → DeskState) (gives : Want → Order → Outc
   quiet_keeps : (name : List ℕ) (call : Call state gives) → NoFileChanges (state call.entry) (state call.now) → has (file_of (state call.entry) name) → ¬ (book_at (state call.entry) name ≡ unborn)
       → (last : List ℕ) → Leaves state gives name call last → has last
   quiet_keeps name call same had some _ returned =
-      same_file (file_of (state call.entry) name) (file_of (state call.now) name) had (quiet_file name (state call.entry) (state call.now) (same call.tells).0)
-  quiet_keeps name call same had some _ (crashed one moment start image text is) = absurd (no_start (same call.tells).1 start)
+      same_file (file_of (state call.entry) name) (file_of (state call.now) name) had (quiet_file name (state call.entry) (state call.now) (same call.told).0)
+  quiet_keeps name call same had some _ (crashed one moment start image text is) = absurd (no_start (same call.told).1 start)
   quiet_keeps name call same had some _ (migrating old asks young before moment first image text is) = absurd (some young)
   quiet_keeps name call same had some _ (elsewhere aside) = had
 
@@ -265,8 +266,9 @@ module _ {K : Type 0} (state : K → DeskState) (gives : Want → Order → Outc
       by (behaviour.no_command none closes still) = quiet_keeps name call still.1 had some last leaves
       by (behaviour.obeyed command asks obeys) =
           goes_keeps name call command asks
+          (subst (λ (e : DeskState). Goes gives (IsHired state gives call) command e (state call.now)) (same_entry (state call.entry) (state call.now) call.told call.tells)
           (obeys_goes state gives (WasAsked (state call.entry) (state call.now)) command call.files call.ports call.later call.entry call.now call.status
-          (λ want is hires n among. record { wanted = ap (option_and_then want_of) asks ∙ is; hires = hires; among = among }) call.tells obeys) had some effect last leaves
+          (λ want is hires n among. record { wanted = ap (option_and_then want_of) asks ∙ is; hires = hires; among = among }) call.told call.tells obeys)) had some effect last leaves
 
 -- what a call leaves of a file that is a book is what it held, with what was recorded behind it
 pub call_grows : {K : Type 0} (state : K → DeskState) (gives : Want → Order → Outcome → Type 0) {elements : List Element} (name : List ℕ) (call : Call state gives)

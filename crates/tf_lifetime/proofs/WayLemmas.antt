@@ -1,7 +1,7 @@
 -- Which way a call goes: what it leaves of the file that it is about.
 use Rattle.std.proofs.Common.{◌≡◌, ◌≢◌, ◌⊎◌, ◌<◌, ℕ, List, [], ◌++◌, Option, Some, refl, sym, ap, subst, ⊎_elim}
 use Rattle.std.specs.Prelude.{Bool, IsTrue, unwrap_or}
-use Rattle.tf_desk.specs.State.{DeskState}
+use Rattle.tf_desk.specs.State.{DeskState, told_as}
 use Rattle.tf_flow.specs.Plan.{PlanValue, PlanTree}
 use Rattle.tf_states.specs.declared.record.Entry.{Entry}
 use Rattle.tf_ports.specs.Ports.{Contents, DoorTold, wanted as number_of, CrewTold}
@@ -34,6 +34,7 @@ use Rattle.tf_commands.specs.declared.reading.Source.{Source}
 use Rattle.tf_commands.specs.declared.running.Request.{Request}
 use Rattle.tf_migration.specs.Migrates as migrate
 use Rattle.tf_migration.specs.Migrates.{Migrates}
+use Rattle.tf_lifetime.proofs.ToldLemmas.{quiet_told}
 use Rattle.tf_lifetime.specs.Life.{file_of_command}
 use Rattle.tf_lifetime.proofs.NameLemmas.{name_same}
 use Rattle.tf_lifetime.proofs.GivenLemmas.{GivesAll, run_gives, ended_gives, reset_gives}
@@ -212,32 +213,32 @@ pub itself : (entry : DeskState) → NoFileChanges entry entry
 itself entry told = (refl, refl)
 
 module _ {K : Type 0} (state : K → DeskState) (gives : Want → Order → Outcome → Type 0) where
-  demo_goes : {able : ℕ → Want → Type 0} {hands : Want} {stopped : Type 0} (name : List ℕ) (crew crew_after : CrewTold) (entry now : K) (seed size status : ℕ) → Allows able hands crew crew_after → IsTrue (state entry).tells
+  demo_goes : {able : ℕ → Want → Type 0} {hands : Want} {stopped : Type 0} (name : List ℕ) (crew crew_after : CrewTold) (entry now : K) (seed size status : ℕ) → Allows able hands crew crew_after → IsTrue (state now).tells
       → Demonstrates state (gives hands) hands stopped name crew crew_after entry now seed size status → (command : Asked) → file_of_command command ≡ Some name
-      → Goes gives able command (state entry) (state now)
+      → Goes gives able command (told_as (state now) (state entry)) (state now)
   demo_goes name crew crew_after entry now seed size status allow told (books.ungenerated is same still) command its =
-      untouched (subst (λ (k : K). NoFileChanges (state entry) (state k)) (sym still) (itself (state entry)))
+      untouched (subst (λ (k : K). NoFileChanges (told_as (state k) (state entry)) (state k)) (sym still) (itself (state entry)))
   demo_goes name crew crew_after entry now seed size status allow told (books.demonstrated r) command its =
-      about name its (runs_way name crew crew_after (state entry) (state now) _ status allow told r)
+      about name its (runs_way name crew crew_after (told_as (state now) (state entry)) (state now) _ status allow told r)
 
   pub obeys_goes : {able : ℕ → Want → Type 0} (stopped : Type 0) (command : Asked) (files : Contents) (ports later : PortsTold) (entry now : K) (status : ℕ)
-      → ((want : Want) → want_of command ≡ Some want → Allows able want ports.crew later.crew) → IsTrue (state entry).tells
-      → Obeys state gives stopped command files ports later entry now status → Goes gives able command (state entry) (state now)
-  obeys_goes stopped (asked.Try file sets defer hands target) files ports later entry now status allow told obeys = untouched obeys.1.0
-  obeys_goes stopped (asked.Check file sets target) files ports later entry now status allow told obeys = untouched obeys.1.1
-  obeys_goes stopped (asked.Audit file log sets defer) files ports later entry now status allow told obeys = untouched obeys.1.1
-  obeys_goes stopped (asked.Run file book sets defer hands stop target) files ports later entry now status allow told obeys =
-      file_goes book (state entry) (state now) status refl (λ tree did. runs_way book ports.crew later.crew (state entry) (state now) tree status (allow hands refl) told did) obeys
-  obeys_goes stopped (asked.Resume book wanted hands stop) files ports later entry now status allow told obeys = about book refl (resumes_way book wanted ports.crew later.crew (state entry) (state now) status (allow hands refl) told obeys)
-  obeys_goes stopped (asked.Show book wanted) files ports later entry now status allow told obeys = about book refl (shows_way book wanted (state entry) (state now) status told obeys.0)
-  obeys_goes stopped (asked.Reset book wanted) files ports later entry now status allow told obeys = about book refl (resets_way book wanted (state entry) (state now) status told obeys.0)
-  obeys_goes stopped (asked.Details book) files ports later entry now status allow told obeys = about book refl (lists_way book (state entry) (state now) status told obeys.0)
-  obeys_goes stopped (asked.Demo seed size book hands) files ports later entry now status allow told obeys = demo_goes book ports.crew later.crew entry now seed size status (allow _ refl) told obeys _ refl
-  obeys_goes stopped (asked.Migrate old new) files ports later entry now status allow told obeys =
-      carried old new refl (migrates_so old new (state entry) (state now) status told obeys.0)
-  obeys_goes stopped (asked.Worker address sessions) files ports later entry now status allow told obeys = untouched obeys.1
-  obeys_goes stopped (asked.Board file request) files ports later entry now status allow told obeys = about file refl (does_way request file (state entry) (state now) status told obeys.0)
-  obeys_goes stopped (asked.Conduct file owner hands) files ports later entry now status allow told obeys =
-      about file refl (conducts_way files ports.crew later.crew file owner hands (state entry) (state now) status told obeys.0)
-  obeys_goes stopped (asked.Serve file address sessions) files ports later entry now status allow told obeys =
-      about file refl (serves_way file address sessions ports.door later.door (state entry) (state now) status told obeys.0)
+      → ((want : Want) → want_of command ≡ Some want → Allows able want ports.crew later.crew) → IsTrue (state entry).tells → IsTrue (state now).tells
+      → Obeys state gives stopped command files ports later entry now status → Goes gives able command (told_as (state now) (state entry)) (state now)
+  obeys_goes stopped (asked.Try file sets defer hands target) files ports later entry now status allow before told obeys = untouched (quiet_told (state entry) (state now) before obeys.1.0)
+  obeys_goes stopped (asked.Check file sets target) files ports later entry now status allow before told obeys = untouched (quiet_told (state entry) (state now) before obeys.1.1)
+  obeys_goes stopped (asked.Audit file log sets defer) files ports later entry now status allow before told obeys = untouched (quiet_told (state entry) (state now) before obeys.1.1)
+  obeys_goes stopped (asked.Run file book sets defer hands stop target) files ports later entry now status allow before told obeys =
+      file_goes book (told_as (state now) (state entry)) (state now) status refl (λ tree did. runs_way book ports.crew later.crew (told_as (state now) (state entry)) (state now) tree status (allow hands refl) told did) obeys
+  obeys_goes stopped (asked.Resume book wanted hands stop) files ports later entry now status allow before told obeys = about book refl (resumes_way book wanted ports.crew later.crew (told_as (state now) (state entry)) (state now) status (allow hands refl) told obeys)
+  obeys_goes stopped (asked.Show book wanted) files ports later entry now status allow before told obeys = about book refl (shows_way book wanted (told_as (state now) (state entry)) (state now) status told obeys.0)
+  obeys_goes stopped (asked.Reset book wanted) files ports later entry now status allow before told obeys = about book refl (resets_way book wanted (told_as (state now) (state entry)) (state now) status told obeys.0)
+  obeys_goes stopped (asked.Details book) files ports later entry now status allow before told obeys = about book refl (lists_way book (told_as (state now) (state entry)) (state now) status told obeys.0)
+  obeys_goes stopped (asked.Demo seed size book hands) files ports later entry now status allow before told obeys = demo_goes book ports.crew later.crew entry now seed size status (allow _ refl) told obeys _ refl
+  obeys_goes stopped (asked.Migrate old new) files ports later entry now status allow before told obeys =
+      carried old new refl (migrates_so old new (told_as (state now) (state entry)) (state now) status told obeys.0)
+  obeys_goes stopped (asked.Worker address sessions) files ports later entry now status allow before told obeys = untouched (quiet_told (state entry) (state now) before obeys.1)
+  obeys_goes stopped (asked.Board file request) files ports later entry now status allow before told obeys = about file refl (does_way request file (told_as (state now) (state entry)) (state now) status told obeys.0)
+  obeys_goes stopped (asked.Conduct file owner hands) files ports later entry now status allow before told obeys =
+      about file refl (conducts_way files ports.crew later.crew file owner hands (told_as (state now) (state entry)) (state now) status told obeys.0)
+  obeys_goes stopped (asked.Serve file address sessions) files ports later entry now status allow before told obeys =
+      about file refl (serves_way file address sessions ports.door later.door (told_as (state now) (state entry)) (state now) status told obeys.0)

@@ -62,7 +62,8 @@ pub record PortFaults : Type 0 where
 
 module _ {K : Type 0} (state : K → DeskState) (gives : Want → Order → Outcome → Type 0) where
   -- a call of the program, of which the top call's clauses on its behaviour and on completeness hold: by any words, with
-  -- any sources, hired hands and faults, on a desk that tells what its files have, and whatever its status
+  -- any sources, hired hands and faults, on a desk that told what its files have and still tells it, and whatever its
+  -- status
   pub record Call : Type 0 where
     pub words : List (List ℕ)
     pub files : Contents
@@ -71,7 +72,8 @@ module _ {K : Type 0} (state : K → DeskState) (gives : Want → Order → Outc
     pub entry : K
     pub now : K
     pub status : ℕ
-    pub tells : IsTrue (state entry).tells
+    pub told : IsTrue (state entry).tells
+    pub tells : IsTrue (state now).tells
     pub behaviour : Behaviour state gives (WasAsked (state entry) (state now)) words files ports later entry now status
     pub faults : PortFaults
     pub faults_later : PortFaults

@@ -13,7 +13,7 @@ use tf_desk::Desk;
 use tf_ports::{Crew, Door, Sources};
 use tf_words::Word;
 
-/// The top call, as a call of a life: where the desk tells, what it promises is all that the laws ask of a call by these
+/// The top call, as a call of a life: where the desk tells behind it, what it promises is all that the laws ask of a call by these
 /// words, between these desks, with this status. So the laws hold of the calls that the program makes, and a clause that
 /// promised less would give no call.
 pub fn call<K: Desk + Send, S: Sources, W: Crew, L: Door, R: Threads + Wait + Sync>(
@@ -22,7 +22,7 @@ pub fn call<K: Desk + Send, S: Sources, W: Crew, L: Door, R: Threads + Wait + Sy
     words: &[Word],
     outside: Outside<K, S, W, L>,
 ) -> Ended<K, S, W, L>
-    ensures lived { IsTrue (K.state outside.desk).tells
+    ensures lived { IsTrue (K.state result.outside.desk).tells
         → (lived : Call K.state (gives_by W.Hand.gives W.Far.gives))
         × (lived.words ≡ words.now) × (lived.entry ≡ outside.desk) × (lived.now ≡ result.outside.desk)
         × (lived.status ≡ result.status)

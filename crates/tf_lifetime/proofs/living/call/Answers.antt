@@ -1,11 +1,14 @@
-use Rattle.std.proofs.Common.{refl}
-use Rattle.tf_commands.specs.Behaviour.{ports_told}
+use Rattle.std.proofs.Common.{refl, sym, subst}
+use Rattle.tf_commands.specs.Behaviour.{MayBeDone, ports_told}
+use Rattle.tf_lifetime.proofs.ToldLemmas.{same_entry}
 use Rattle.tf_lifetime.proofs.living.call.Goals as goal
 
 pub returns : goal.returns
 returns g c =
+    let D = g.K.Desk in
     let before = c.args.outside in
     let after = c.taskflow.result.outside in
+    let top = c.taskflow.ensures in
     record {
       lived = λ told. (
         record {
@@ -16,11 +19,13 @@ returns g c =
           entry = before.desk;
           now = after.desk;
           status = c.taskflow.result.status;
+          told = top.falls told;
           tells = told;
-          behaviour = c.taskflow.ensures.behaviour;
+          behaviour = top.behaviour;
           faults = record { sources = g.S.Sources.faults before.sources; crew = g.W.Crew.faults before.crew; door = g.L.Door.faults before.door };
           faults_later = record { sources = g.S.Sources.faults after.sources; crew = g.W.Crew.faults after.crew; door = g.L.Door.faults after.door };
-          complete = c.taskflow.ensures.complete;
+          complete = λ command is may.
+              top.complete command is (subst (MayBeDone command (g.S.Sources.contents after.sources)) (sym (same_entry (D.state before.desk) (D.state after.desk) (top.falls told) told)) may);
         },
         refl,
         refl,
