@@ -4,16 +4,13 @@
 
 mod shipped;
 
-use shipped::obey;
+use shipped::{begin, obey};
 use std::env::Env;
 use std::fs::{self, File};
 use std::marker::Brand;
 use std::process::ExitCode;
 use std::rt::Files;
 use std::{env, io};
-use tf_commands::{Outside, ProgramCrew};
-use tf_desk::FileDesk;
-use tf_ports::{Folder, SocketDialer, SocketDoor};
 use tf_report::OUT_OF_MEMORY;
 use tf_words::{Word, access_of};
 
@@ -33,12 +30,7 @@ fn main(rt: HostRuntime) -> ExitCode {
             Vec::new(alloc)
         }
     };
-    let outside = Outside {
-        desk: FileDesk::<HostRuntime, Brand>::make(rt, access_of(&words)),
-        sources: Folder::<HostRuntime, Brand>::make(rt),
-        crew: ProgramCrew::make(rt, SocketDialer::make(rt)),
-        door: SocketDoor::make(rt),
-    };
+    let outside = begin::<Brand>(rt, access_of(&words));
     let ended = obey(&rt, alloc, &words, outside);
     ExitCode::from(ended.status)
 }
