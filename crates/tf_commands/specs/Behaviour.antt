@@ -163,7 +163,8 @@ module _ {K : Type 0} (state : K → DeskState) where
       (Audits files log (state entry).shown (state now).shown) (state entry).shown (state now).shown status
       × IsUntouched ports.crew later.crew (state entry) (state now)
   Obeys gives stopped (asked.Run file book sets defer hands stop target) files ports later entry now status =
-      FileRead files (source_so file sets defer target) (IsUntouched ports.crew later.crew (before entry now) (state now))
+      FileRead files (source_so file sets defer target) (IsUntouched ports.crew later.crew
+      (before entry now) (state now))
       (Runs (gives hands) (spoken_run hands stop) stopped book ports.crew later.crew (before entry now) (state now))
       (before entry now).shown (state now).shown status
   Obeys gives stopped (asked.Resume book name hands stop) files ports later entry now status =
@@ -187,7 +188,8 @@ module _ {K : Type 0} (state : K → DeskState) where
   Obeys gives stopped (asked.Board board request) files ports later entry now status =
       Does request board (before entry now) (state now) status × (later ≡ ports)
   Obeys gives stopped (asked.Conduct board owner hands) files ports later entry now status =
-      Conducts (gives (want.Local hands)) files ports.crew later.crew board owner hands (before entry now) (state now) status
+      Conducts (gives (want.Local hands)) files ports.crew later.crew board owner hands
+      (before entry now) (state now) status
       × (later.door ≡ ports.door)
   Obeys gives stopped (asked.Serve board address sessions) files ports later entry now status =
       ServesBoard board address sessions ports.door later.door (before entry now) (state now) status

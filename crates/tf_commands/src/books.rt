@@ -79,7 +79,8 @@ pub fn refuse_book<K: Desk>(alloc: Global, mut desk: K, fault: LoadFault) -> Ove
 fn say_no_book<K: Desk>(alloc: Global, offset: u64, byte: Option<u8>, mut desk: K) -> Over<K>
     ensures refuses { (name : List ℕ) (entry seen : K)
         → Untouched name (told_as (K.state seen) (K.state entry)) (K.state desk)
-        → RefusesOrStops name (told_as (K.state seen) (K.state entry)) (K.state result.desk) (not_a_book offset byte) NO_BOOK result.status }
+        → RefusesOrStops name (told_as (K.state seen) (K.state entry)) (K.state result.desk) (not_a_book offset byte)
+        NO_BOOK result.status }
     ensures said { HasSaid (K.state desk) (K.state result.desk) result.status }
     ensures sound { result.status ≢ DISK_FAILED }
 {
@@ -110,7 +111,8 @@ pub fn say_over<K: Desk>(message: &[u8], status: u8, mut desk: K) -> Over<K>
 pub fn say_empty<K: Desk>(desk: K) -> Over<K>
     ensures refuses { (name : List ℕ) (entry seen : K)
         → Untouched name (told_as (K.state seen) (K.state entry)) (K.state desk)
-        → Refuses name (told_as (K.state seen) (K.state entry)) (K.state result.desk) no_flow_text FORBIDDEN result.status }
+        → Refuses name (told_as (K.state seen) (K.state entry)) (K.state result.desk) no_flow_text FORBIDDEN
+        result.status }
     ensures said { HasSaid (K.state desk) (K.state result.desk) result.status }
     ensures status { (result.status ≡ FORBIDDEN) ⊎ (result.status ≡ UNSAID) }
 {
@@ -121,7 +123,8 @@ pub fn say_empty<K: Desk>(desk: K) -> Over<K>
 pub fn say_not_there<K: Desk>(alloc: Global, sought: &Name, desk: K) -> Over<K>
     ensures refuses { (name : List ℕ) (entry seen : K)
         → Untouched name (told_as (K.state seen) (K.state entry)) (K.state desk)
-        → RefusesOrStops name (told_as (K.state seen) (K.state entry)) (K.state result.desk) (no_flow_named sought.now) FORBIDDEN result.status }
+        → RefusesOrStops name (told_as (K.state seen) (K.state entry))
+        (K.state result.desk) (no_flow_named sought.now) FORBIDDEN result.status }
     ensures said { HasSaid (K.state desk) (K.state result.desk) result.status }
     ensures status { (result.status ≡ FORBIDDEN) ⊎ (result.status ≡ UNSAID) ⊎ (result.status ≡ OUT_OF_MEMORY) }
 {
@@ -158,7 +161,8 @@ pub fn forbid<K: Desk>(alloc: Global, named: &Name, state: FlowState, desk: K) -
 pub fn say_unhired<K: Desk>(desk: K, fault: PortFault) -> Over<K>
     ensures refuses { (name : List ℕ) (entry seen : K)
         → Untouched name (told_as (K.state seen) (K.state entry)) (K.state desk)
-        → RefusesOrStops name (told_as (K.state seen) (K.state entry)) (K.state result.desk) cannot_hire UNHIRED result.status }
+        → RefusesOrStops name (told_as (K.state seen) (K.state entry)) (K.state result.desk) cannot_hire UNHIRED
+        result.status }
     ensures said { HasSaid (K.state desk) (K.state result.desk) result.status }
     ensures closes { ClosesWithOrStops (K.state desk).shown cannot_hire UNHIRED
         (K.state result.desk).shown result.status }

@@ -124,7 +124,8 @@ fn open_number<K: Desk>(alloc: Global, shelf: Shelf<K>, number: u16) -> Result<B
         → Open name (told_as (K.state seen) (K.state entry)) (K.state (desk_of shelf))
         → Open name (told_as (K.state book.journal.desk) (K.state entry)) (K.state book.journal.desk)) }
     ensures holds { IfOk result (λ book. (name : List ℕ) (wanted : Option (List ℕ)) (entry seen : K)
-        → IsShelfOf K.state name (told_as (K.state seen) (K.state entry)) shelf → IsAskedFor wanted shelf.elements number
+        → IsShelfOf K.state name (told_as (K.state seen) (K.state entry)) shelf →
+        IsAskedFor wanted shelf.elements number
         → HoldsBook name wanted (told_as (K.state book.journal.desk) (K.state entry)) book) }
     ensures ready { IfOk result IsReadyBook }
     ensures unfound { IfErr result (λ over. (name : List ℕ) (wanted : Option (List ℕ)) (entry seen : K)

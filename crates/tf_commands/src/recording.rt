@@ -45,7 +45,8 @@ pub fn run_file<K: Desk + Send, S: Sources, W: Crew, R: Threads + Wait + Sync>(
 ) -> Over<K>
     requires few { AreHands request.now.want }
     ensures runs { FileRead (S.contents sources.new) source
-        (IsUntouched (W.told crew.old) (W.told crew.new) (told_as (K.state result.desk) (K.state desk)) (K.state result.desk))
+        (IsUntouched (W.told crew.old) (W.told crew.new) (told_as (K.state result.desk) (K.state desk))
+        (K.state result.desk))
         (Runs (gives_by W.Hand.gives W.Far.gives request.now.want) request.now
         (WasAsked (K.state desk) (K.state result.desk)) name.now
         (W.told crew.old) (W.told crew.new) (told_as (K.state result.desk) (K.state desk)) (K.state result.desk))
@@ -147,11 +148,13 @@ fn hire_and_run<K: Desk + Send, W: Crew, R: Threads + Wait + Sync>(
     requires few { AreHands request.now.want }
     ensures runs { (name : List ℕ) (entry seen : K)
         → IsShelfOf K.state name (told_as (K.state seen) (K.state entry)) shelf
-        → (Unhired name (told_as (K.state result.desk) (K.state entry)) (K.state result.desk) (W.told crew.old) (W.told crew.new) result.status
+        → (Unhired name (told_as (K.state result.desk) (K.state entry)) (K.state result.desk) (W.told crew.old)
+        (W.told crew.new) result.status
         ⊎ (Hires request.now.want (W.told crew.old) (W.told crew.new)
         × RunsAnew (gives_by W.Hand.gives W.Far.gives request.now.want) request.now
         (WasAsked (K.state (desk_of shelf)) (K.state result.desk)) (W.told crew.new).back
-        name shelf.elements machine.plan (told_as (K.state result.desk) (K.state entry)) (K.state result.desk) result.status)) }
+        name shelf.elements machine.plan (told_as (K.state result.desk) (K.state entry)) (K.state result.desk)
+        result.status)) }
     ensures hires { HiresAtMost request.now.want (W.told crew.old) (W.told crew.new) }
     ensures falls { IsTrue (K.state result.desk).tells → IsTrue (K.state (desk_of shelf)).tells }
     ensures asks { (K.state (desk_of shelf)).asks ≤ (K.state result.desk).asks }

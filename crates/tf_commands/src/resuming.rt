@@ -71,7 +71,8 @@ fn go_on<K: Desk + Send, W: Crew, R: Threads + Wait + Sync>(
         → HoldsBook name wanted (told_as (K.state seen) (K.state entry)) book
         → GoesFurther (gives_by W.Hand.gives W.Far.gives request.now.want) request.now
         (WasAsked (K.state book.journal.desk) (K.state result.desk))
-        name (told_as (K.state seen) (K.state entry)) book (W.told crew.old) (W.told crew.new) (K.state result.desk) result.status }
+        name (told_as (K.state seen) (K.state entry)) book (W.told crew.old) (W.told crew.new) (K.state result.desk)
+        result.status }
     ensures hires { HiresAtMost request.now.want (W.told crew.old) (W.told crew.new) }
     ensures tells { (K.state result.desk).tells ≡ (K.state book.journal.desk).tells }
     ensures asks { (K.state book.journal.desk).asks ≤ (K.state result.desk).asks }
@@ -125,7 +126,8 @@ fn hire_and_go_on<K: Desk + Send, W: Crew, R: Threads + Wait + Sync>(
         → HoldsBook name wanted (told_as (K.state seen) (K.state entry)) book
         → GoesFurther (gives_by W.Hand.gives W.Far.gives request.now.want) request.now
         (WasAsked (K.state book.journal.desk) (K.state result.desk))
-        name (told_as (K.state seen) (K.state entry)) book (W.told crew.old) (W.told crew.new) (K.state result.desk) result.status }
+        name (told_as (K.state seen) (K.state entry)) book (W.told crew.old) (W.told crew.new) (K.state result.desk)
+        result.status }
     ensures hires { HiresAtMost request.now.want (W.told crew.old) (W.told crew.new) }
     ensures tells { (K.state result.desk).tells ≡ (K.state book.journal.desk).tells }
     ensures asks { (K.state book.journal.desk).asks ≤ (K.state result.desk).asks }

@@ -148,7 +148,8 @@ impl<K: Desk> Journal<K> {
             (λ back. RefusesFile back.1 (recovered title (bytes_now (K.state desk)))) }
         ensures old_format { IfErr result (λ back. back.1 ≡ JournalFault.Old → title ≡ Title.Book2) }
         ensures rests { Trusts Rests (K.state desk) (K.state (desk_after result)) }
-        ensures synced { IsTrue (K.state (desk_after result)).tells → IsSynced (K.state desk) (K.state (desk_after result)) }
+        ensures synced { IsTrue (K.state (desk_after result)).tells → IsSynced
+            (K.state desk) (K.state (desk_after result)) }
         ensures at_sync { IsTrue (K.state (desk_after result)).tells → IfErr result (λ back. back.1 ≢ JournalFault.Disk)
             → HasSynced (K.state desk) (K.state (desk_after result)) }
         ensures cause { IfErr result (λ back. back.1 ≡ JournalFault.Disk

@@ -42,9 +42,11 @@ fn say_text<K: Desk>(desk: K, text: Result<Vec<u8>, Memory>, status: u8) -> (K, 
 
 /// Says why the old book gave no flow, unless memory ran out.
 fn refuse_old<K: Desk>(alloc: Global, desk: K, fault: OldFault) -> (K, u8)
-    ensures migrates { (old new : List ℕ) (entry seen : K) → IsUnread old fault (told_as (K.state seen) (K.state entry)) (K.state desk)
+    ensures migrates { (old new : List ℕ) (entry seen : K) → IsUnread old fault
+        (told_as (K.state seen) (K.state entry)) (K.state desk)
         → Migrates old new (told_as (K.state seen) (K.state entry)) (K.state result.0) result.1 }
-    ensures causes { (old : List ℕ) (entry seen : K) → IsUnread old fault (told_as (K.state seen) (K.state entry)) (K.state desk)
+    ensures causes { (old : List ℕ) (entry seen : K) → IsUnread old fault (told_as (K.state seen) (K.state entry))
+        (K.state desk)
         → HasCauses (told_as (K.state seen) (K.state entry)) (K.state result.0) result.1 }
     ensures tells { (K.state result.0).tells ≡ (K.state desk).tells }
 {
@@ -85,9 +87,11 @@ fn refuse_new<K: Desk>(alloc: Global, desk: K, fault: NewFault) -> (K, u8)
 /// Makes the new book of the bodies of a flow that was read, and says how many entries it has. The message is made
 /// first: where memory runs out for it, nothing was written.
 fn carry_over<K: Desk>(alloc: Global, desk: K, new: &Text, bodies: &[Body]) -> (K, u8)
-    ensures migrates { (old : List ℕ) (entry seen : K) → IsRead old bodies.now (told_as (K.state seen) (K.state entry)) (K.state desk)
+    ensures migrates { (old : List ℕ) (entry seen : K) → IsRead old bodies.now
+        (told_as (K.state seen) (K.state entry)) (K.state desk)
         → Migrates old new.now (told_as (K.state result.0) (K.state entry)) (K.state result.0) result.1 }
-    ensures causes { (old : List ℕ) (entry seen : K) → IsRead old bodies.now (told_as (K.state seen) (K.state entry)) (K.state desk)
+    ensures causes { (old : List ℕ) (entry seen : K) → IsRead old bodies.now (told_as (K.state seen) (K.state entry))
+        (K.state desk)
         → HasCauses (told_as (K.state result.0) (K.state entry)) (K.state result.0) result.1 }
     ensures falls { IsTrue (K.state result.0).tells → IsTrue (K.state desk).tells }
 {

@@ -86,7 +86,8 @@ fn write<K: Desk>(alloc: Global, desk: K, bodies: &[Body]) -> Result<K, (K, NewF
 
 /// Makes a book with these bodies in the picked file, if it is unborn.
 fn create<K: Desk>(alloc: Global, desk: K, bodies: &[Body]) -> Result<K, (K, NewFault)>
-    ensures makes { (name : List ℕ) (entry seen : K) → IsPicked name (told_as (K.state seen) (K.state entry)) (K.state desk)
+    ensures makes { (name : List ℕ) (entry seen : K) → IsPicked name (told_as (K.state seen) (K.state entry))
+        (K.state desk)
         → Makes K.state name bodies.now (told_as (K.state (desk_written result)) (K.state entry)) result }
     ensures falls { IsTrue (K.state (desk_written result)).tells → IsTrue (K.state desk).tells }
 {

@@ -78,10 +78,12 @@ fn read_and_conduct<K: Desk + Send, S: Sources, W: Crew, R: Threads + Wait + Syn
     requires short { length word.now ≤ 61 }
     requires many { (1 ≤ hands) × (hands ≤ 64) }
     requires ready { IsReadyBoard board }
-    ensures conducts { (name : List ℕ) (entry seen : K) → IsOpened K.state name (told_as (K.state seen) (K.state entry)) board
+    ensures conducts { (name : List ℕ) (entry seen : K) → IsOpened K.state name
+        (told_as (K.state seen) (K.state entry)) board
         → Conducts W.Hand.gives (S.contents sources.new) (W.told crew.old) (W.told crew.new) name word.now hands
         (told_as (K.state seen) (K.state entry)) (K.state result.0) result.1 }
-    ensures causes { (name : List ℕ) (entry seen : K) → IsOpened K.state name (told_as (K.state seen) (K.state entry)) board
+    ensures causes { (name : List ℕ) (entry seen : K) → IsOpened K.state name
+        (told_as (K.state seen) (K.state entry)) board
         → HasCauses (told_as (K.state seen) (K.state entry)) (K.state result.0) result.1 }
     ensures unread { result.1 ≡ UNREAD → Rises (S.faults sources.old) (S.faults sources.new) }
     ensures unhired { result.1 ≡ UNHIRED → Rises (W.faults crew.old) (W.faults crew.new) }
@@ -113,7 +115,8 @@ fn prepare_and_conduct<K: Desk + Send, W: Crew, R: Threads + Wait + Sync>(
         → (name : List ℕ) (entry seen : K) → IsOpened K.state name (told_as (K.state seen) (K.state entry)) board
         → Conducts W.Hand.gives contents (W.told crew.old) (W.told crew.new) name word.now hands
         (told_as (K.state seen) (K.state entry)) (K.state result.0) result.1 }
-    ensures causes { (name : List ℕ) (entry seen : K) → IsOpened K.state name (told_as (K.state seen) (K.state entry)) board
+    ensures causes { (name : List ℕ) (entry seen : K) → IsOpened K.state name
+        (told_as (K.state seen) (K.state entry)) board
         → HasCauses (told_as (K.state seen) (K.state entry)) (K.state result.0) result.1 }
     ensures apart { result.1 ≢ UNREAD }
     ensures unhired { result.1 ≡ UNHIRED → Rises (W.faults crew.old) (W.faults crew.new) }
@@ -146,7 +149,8 @@ fn hire_and_conduct<K: Desk + Send, W: Crew, R: Threads + Wait + Sync>(
         → (name : List ℕ) (entry seen : K) → IsOpened K.state name (told_as (K.state seen) (K.state entry)) board
         → Conducts W.Hand.gives contents (W.told crew.old) (W.told crew.new) name word.now hands
         (told_as (K.state seen) (K.state entry)) (K.state result.0) result.1 }
-    ensures causes { (name : List ℕ) (entry seen : K) → IsOpened K.state name (told_as (K.state seen) (K.state entry)) board
+    ensures causes { (name : List ℕ) (entry seen : K) → IsOpened K.state name
+        (told_as (K.state seen) (K.state entry)) board
         → HasCauses (told_as (K.state seen) (K.state entry)) (K.state result.0) result.1 }
     ensures apart { result.1 ≢ UNREAD }
     ensures unhired { result.1 ≡ UNHIRED → Rises (W.faults crew.old) (W.faults crew.new) }
@@ -196,8 +200,10 @@ fn conduct_with<K: Desk + Send, P: Performer + Send, R: Threads + Wait + Sync>(
     requires have { HaveFiles board.past (arc_value ready.files).items }
     ensures works { (contents : Contents) → AreReadFrom contents (arc_value ready.files).items
         → (name : List ℕ) (entry seen : K) → IsOpened K.state name (told_as (K.state seen) (K.state entry)) board
-        → WorksOff P.gives contents name word.now count (told_as (K.state seen) (K.state entry)) (K.state result.desk) result.status }
-    ensures causes { (name : List ℕ) (entry seen : K) → IsOpened K.state name (told_as (K.state seen) (K.state entry)) board
+        → WorksOff P.gives contents name word.now count (told_as (K.state seen) (K.state entry)) (K.state result.desk)
+        result.status }
+    ensures causes { (name : List ℕ) (entry seen : K) → IsOpened K.state name
+        (told_as (K.state seen) (K.state entry)) board
         → HasCauses (told_as (K.state seen) (K.state entry)) (K.state result.desk) result.status }
     ensures apart { (result.status ≢ UNREAD) × (result.status ≢ UNHIRED) }
     ensures back { vec_len result.hands ≡ count }

@@ -45,7 +45,8 @@ fn say_all<K: Desk>(mut desk: K, text: &[u8], status: u8) -> (K, u8)
     ensures ends { (name word : List ℕ) (count : ℕ) (past : List Command) (made : List AMade) (halted : Option AHalt)
         (entry seen : K) → text.now ≡ closing_text made halted → status ≡ status_of_halt halted
         → HasCalled name word count past made halted (told_as (K.state seen) (K.state entry)) (K.state desk)
-        → EndsCalls name word count past made halted (told_as (K.state seen) (K.state entry)) (K.state result.0) result.1 }
+        → EndsCalls name word count past made halted (told_as (K.state seen) (K.state entry))
+        (K.state result.0) result.1 }
     ensures concludes { Concludes (K.state desk) (K.state result.0) result.1 }
     ensures status { result.1 ≢ UNSAID → result.1 ≡ status }
 {
@@ -61,7 +62,8 @@ pub(crate) fn conclude<K: Desk>(alloc: Global, ended: Conducted<K>) -> (K, u8)
     ensures ends { (name word : List ℕ) (count : ℕ) (past : List Command) (entry seen : K)
         → HasCalled name word count past ended.shared.made ended.halt (told_as (K.state seen) (K.state entry))
         (K.state ended.shared.board.journal.desk)
-        → EndsCalls name word count past ended.shared.made ended.halt (told_as (K.state seen) (K.state entry)) (K.state result.0) result.1 }
+        → EndsCalls name word count past ended.shared.made ended.halt (told_as (K.state seen) (K.state entry))
+        (K.state result.0) result.1 }
     ensures shared { IsShared K.state ended.shared }
     ensures concludes { Concludes (K.state ended.shared.board.journal.desk) (K.state result.0) result.1 }
     ensures failed { result.1 ≡ DISK_FAILED → ended.halt ≡ Some DiskHalt }

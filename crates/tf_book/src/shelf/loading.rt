@@ -99,7 +99,8 @@ impl<K: Desk> Shelf<K> {
         ensures rests { Trusts Rests (K.state desk) (K.state (desk_after_load result)) }
         ensures synced { IsTrue (K.state (desk_after_load result)).tells
             → IsSynced (K.state desk) (K.state (desk_after_load result)) }
-        ensures at_sync { IsTrue (K.state (desk_after_load result)).tells → IfErr result (λ back. back.1 ≢ LoadFault.Disk)
+        ensures at_sync { IsTrue (K.state (desk_after_load result)).tells
+            → IfErr result (λ back. back.1 ≢ LoadFault.Disk)
             → HasSynced (K.state desk) (K.state (desk_after_load result)) }
     {
         match Journal::load(alloc, desk, Title::Book2) {
