@@ -1,4 +1,4 @@
-use Rattle.std.proofs.Common.{◌≡◌, ◌×◌, ap, ◌∙◌, subst}
+use Rattle.std.proofs.Common.{◌≡◌, ap, ◌∙◌, subst}
 use Rattle.std.specs.Prelude.{IsTrue, Result, Ok, Err, IfErr}
 use Rattle.tf_desk.specs.State.{bytes_now}
 use Rattle.tf_desk.proofs.StateLemmas.{trusts_files, bytes_stay}
