@@ -1,4 +1,5 @@
 pub mod DeskLaws
+pub mod ToldLemmas
 pub mod FormLemmas
 pub mod JobLemmas
 pub mod OwnerLemmas

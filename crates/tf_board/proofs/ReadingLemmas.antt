@@ -29,8 +29,9 @@ read_none kept none = record {
 }
 
 -- all was read
-pub read_all : {K : Type 0} (state : K → DeskState) (j : Held K) (kept : Kept) → j.title ≡ jobs_title → HasReadAll state HasReadCommands j kept → HasReadBoard state j kept
-read_all state j kept titled read =
+pub read_all : {K : Type 0} (state : K → DeskState) (j : Held K) (desk : K) (kept : Kept) → j.title ≡ jobs_title → HasReadAll state HasReadCommands j desk kept
+    → HasReadBoard state j desk kept
+read_all state j desk kept titled read =
     let are : read.bodies ≡ bodies_of (past_in kept) = read.is_replayed.bodies_are in
     let same : length (prefix_of j.title read.bodies) ≡ length (prefix_of jobs_title (bodies_of (past_in kept))) =
     ap (λ (t : Title). length (prefix_of t read.bodies)) titled ∙ ap (λ (b : List (List ℕ)). length (prefix_of jobs_title b)) are in

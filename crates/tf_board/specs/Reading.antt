@@ -11,10 +11,10 @@ pub record HasReadCommands (kept : Kept) (bodies : List (List ℕ)) : Type 0 whe
   pub true_to : IsTrueTo kept (past_in kept)
   pub bodies_are : bodies ≡ bodies_of (past_in kept)
 
--- all was read of a journal: its bodies are the forms of the commands that are kept
-pub record HasReadBoard {K : Type 0} (state : K → DeskState) (journal : Held K) (kept : Kept) : Type 0 where
+-- all was read of a journal, up to this desk: its bodies are the forms of the commands that are kept
+pub record HasReadBoard {K : Type 0} (state : K → DeskState) (journal : Held K) (desk : K) (kept : Kept) : Type 0 where
   pub true_to : IsTrueTo kept (past_in kept)
   pub size : journal.size ≡ size_of (past_in kept)
   pub limit : journal.size ≤ SIZE_LIMIT
-  pub whole : IsTrue (state journal.desk).tells → (held : List (List ℕ)) → HasBodies state journal held
+  pub whole : IsTrue (state desk).tells → (held : List (List ℕ)) → HasBodies state journal held
       → held ≡ bodies_of (past_in kept)

@@ -1,6 +1,7 @@
 //! A whole command on a board.
 ghost use Rattle.std.specs.Prelude.{◌≡◌, ◌≢◌, ℕ, List, IsTrue};
 ghost use Rattle.tf_numbers.specs.Numbers.{Rises};
+ghost use Rattle.tf_desk.specs.State.{told_as};
 ghost use Rattle.tf_journal.specs.Start.{file_of};
 ghost use Rattle.tf_board.specs.Does.{fault_text, fault_status, Reached, Ends, Does, Concludes, HasCauses, IsAllowed, IsBoardComplete};
 ghost use Rattle.tf_board.specs.Board.{board_in};
@@ -24,9 +25,9 @@ use uuid::Uuid;
 /// Says why a call did nothing, unless memory ran out.
 fn fail<K: Desk>(alloc: Global, desk: K, fault: BoardFault) -> (K, u8)
     requires sound { fault ≢ BoardFault.Halted }
-    ensures ends { (name : List ℕ) (past pending after : List Command) (entry : K)
-        → Reached name past pending after (K.state entry) (K.state desk)
-        → Ends name past pending after (K.state entry) (K.state result.0)
+    ensures ends { (name : List ℕ) (past pending after : List Command) (entry seen : K)
+        → Reached name past pending after (told_as (K.state seen) (K.state entry)) (K.state desk)
+        → Ends name past pending after (told_as (K.state seen) (K.state entry)) (K.state result.0)
         (fault_text fault) (fault_status fault) result.1 }
     ensures stopped { fault ≡ BoardFault.Memory → result.1 ≡ OUT_OF_MEMORY }
     ensures concludes { Concludes (K.state desk) (K.state result.0) result.1 }
@@ -46,9 +47,10 @@ fn post<K: Desk>(
     priority: Priority,
     details: Val,
 ) -> (K, u8)
-    ensures does { Does (BoardRequest.Call (JobCall.Post name priority details)) file.now (K.state desk)
-        (K.state result.0) result.1 }
-    ensures causes { HasCauses (K.state desk) (K.state result.0) result.1 }
+    ensures does { Does (BoardRequest.Call (JobCall.Post name priority details)) file.now
+        (told_as (K.state result.0) (K.state desk)) (K.state result.0) result.1 }
+    ensures causes { HasCauses (told_as (K.state result.0) (K.state desk)) (K.state result.0) result.1 }
+    ensures falls { IsTrue (K.state result.0).tells → IsTrue (K.state desk).tells }
 {
     let mut board = match open(alloc, desk, file) {
         Ok(board) => board,
@@ -72,9 +74,10 @@ fn act<K: Desk>(
     id: &Uuid,
     owner: &Name,
 ) -> (K, u8)
-    ensures does { Does (BoardRequest.Call (JobCall.Apply action id.now owner.now)) file.now (K.state desk)
-        (K.state result.0) result.1 }
-    ensures causes { HasCauses (K.state desk) (K.state result.0) result.1 }
+    ensures does { Does (BoardRequest.Call (JobCall.Apply action id.now owner.now)) file.now
+        (told_as (K.state result.0) (K.state desk)) (K.state result.0) result.1 }
+    ensures causes { HasCauses (told_as (K.state result.0) (K.state desk)) (K.state result.0) result.1 }
+    ensures falls { IsTrue (K.state result.0).tells → IsTrue (K.state desk).tells }
 {
     let mut board = match open(alloc, desk, file) {
         Ok(board) => board,
@@ -91,8 +94,10 @@ fn act<K: Desk>(
 
 /// Says who has a job.
 fn owner<K: Desk>(alloc: Global, desk: K, file: &Text, id: &Uuid) -> (K, u8)
-    ensures does { Does (BoardRequest.Owner id.now) file.now (K.state desk) (K.state result.0) result.1 }
-    ensures causes { HasCauses (K.state desk) (K.state result.0) result.1 }
+    ensures does { Does (BoardRequest.Owner id.now) file.now
+        (told_as (K.state result.0) (K.state desk)) (K.state result.0) result.1 }
+    ensures causes { HasCauses (told_as (K.state result.0) (K.state desk)) (K.state result.0) result.1 }
+    ensures falls { IsTrue (K.state result.0).tells → IsTrue (K.state desk).tells }
 {
     let board = match open(alloc, desk, file) {
         Ok(board) => board,
@@ -114,8 +119,10 @@ fn owner<K: Desk>(alloc: Global, desk: K, file: &Text, id: &Uuid) -> (K, u8)
 
 /// Says which jobs there are.
 fn list<K: Desk>(alloc: Global, desk: K, file: &Text) -> (K, u8)
-    ensures does { Does BoardRequest.List file.now (K.state desk) (K.state result.0) result.1 }
-    ensures causes { HasCauses (K.state desk) (K.state result.0) result.1 }
+    ensures does { Does BoardRequest.List file.now
+        (told_as (K.state result.0) (K.state desk)) (K.state result.0) result.1 }
+    ensures causes { HasCauses (told_as (K.state result.0) (K.state desk)) (K.state result.0) result.1 }
+    ensures falls { IsTrue (K.state result.0).tells → IsTrue (K.state desk).tells }
 {
     let board = match open(alloc, desk, file) {
         Ok(board) => board,
@@ -127,8 +134,10 @@ fn list<K: Desk>(alloc: Global, desk: K, file: &Text) -> (K, u8)
 
 /// Makes a call.
 fn make<K: Desk>(alloc: Global, desk: K, file: &Text, call: JobCall) -> (K, u8)
-    ensures does { Does (BoardRequest.Call call) file.now (K.state desk) (K.state result.0) result.1 }
-    ensures causes { HasCauses (K.state desk) (K.state result.0) result.1 }
+    ensures does { Does (BoardRequest.Call call) file.now
+        (told_as (K.state result.0) (K.state desk)) (K.state result.0) result.1 }
+    ensures causes { HasCauses (told_as (K.state result.0) (K.state desk)) (K.state result.0) result.1 }
+    ensures falls { IsTrue (K.state result.0).tells → IsTrue (K.state desk).tells }
 {
     match call {
         JobCall::Post {
@@ -142,8 +151,9 @@ fn make<K: Desk>(alloc: Global, desk: K, file: &Text, call: JobCall) -> (K, u8)
 
 /// Does what is asked.
 fn answer<K: Desk>(alloc: Global, desk: K, file: &Text, request: BoardRequest) -> (K, u8)
-    ensures does { Does request file.now (K.state desk) (K.state result.0) result.1 }
-    ensures causes { HasCauses (K.state desk) (K.state result.0) result.1 }
+    ensures does { Does request file.now (told_as (K.state result.0) (K.state desk)) (K.state result.0) result.1 }
+    ensures causes { HasCauses (told_as (K.state result.0) (K.state desk)) (K.state result.0) result.1 }
+    ensures falls { IsTrue (K.state result.0).tells → IsTrue (K.state desk).tells }
 {
     match request {
         BoardRequest::Call(call) => make(alloc, desk, file, call),
@@ -155,20 +165,22 @@ fn answer<K: Desk>(alloc: Global, desk: K, file: &Text, request: BoardRequest) -
 /// Does what is asked of the board of a file. The file of that name is picked and read as a board; one that is unborn
 /// becomes a board without a command, and one that is no board isn't changed. What the request comes to on the board's
 /// commands is recorded and then said. A crash since the call's start leaves the commands from before, or those from
-/// after.
+/// after. What is told of the file, and what a crash leaves, is told as far as the desk tells after the call, and it
+/// tells then only where it told before.
 pub fn board_command<K: Desk>(
     alloc: Global,
     board: &Text,
     request: BoardRequest,
     desk: K,
 ) -> (K, u8)
-    ensures does { Does request board.now (K.state desk) (K.state result.0) result.1 }
-    ensures complete { IsTrue (K.state desk).tells
+    ensures does { Does request board.now (told_as (K.state result.0) (K.state desk)) (K.state result.0) result.1 }
+    ensures complete { IsTrue (K.state result.0).tells
         → IsAllowed request (board_in (file_of (K.state desk) board.now))
         → ¬ (Rises (K.state desk).disk_faults (K.state result.0).disk_faults)
         → ¬ (Rises (K.state desk).out_faults (K.state result.0).out_faults)
         → IsBoardComplete result.1 }
-    ensures causes { HasCauses (K.state desk) (K.state result.0) result.1 }
+    ensures causes { HasCauses (told_as (K.state result.0) (K.state desk)) (K.state result.0) result.1 }
+    ensures falls { IsTrue (K.state result.0).tells → IsTrue (K.state desk).tells }
 {
     answer(alloc, desk, board, request)
 }

@@ -1,6 +1,6 @@
 //! How a command on a board ends: by what it says last.
 ghost use Rattle.std.specs.Prelude.{◌≡◌, ◌≢◌, ◌⊎◌, ℕ, List, IfOk, IsErr};
-ghost use Rattle.tf_desk.specs.State.{Says};
+ghost use Rattle.tf_desk.specs.State.{told_as, Says};
 ghost use Rattle.tf_journal.specs.declared.faults.LoadFault.{LoadFault as ALoadFault};
 ghost use Rattle.tf_board.specs.Board.{IsUnopened};
 ghost use Rattle.tf_board.specs.Does.{Reached, Ends, EndsUnmade, EndsUnopened, Concludes};
@@ -21,12 +21,13 @@ pub fn end_with<K: Desk>(mut desk: K, message: &[u8], status: u8) -> (K, u8)
     requires apart { status ≢ UNSAID }
     ensures closes { ClosesWith (K.state desk).shown message.now status (K.state result.0).shown result.1 }
     ensures says { Says message.now (K.state desk) (K.state result.0) }
-    ensures reached { (name : List ℕ) (past pending after : List Command) (entry : K)
-        → Reached name past pending after (K.state entry) (K.state desk)
-        → Ends name past pending after (K.state entry) (K.state result.0) message.now status result.1 }
-    ensures unopened { (name : List ℕ) (fault : ALoadFault) (entry : K)
-        → IsUnopened name fault (K.state entry) (K.state desk)
-        → EndsUnmade name (K.state entry) (K.state result.0) message.now status result.1 }
+    ensures reached { (name : List ℕ) (past pending after : List Command) (entry seen : K)
+        → Reached name past pending after (told_as (K.state seen) (K.state entry)) (K.state desk)
+        → Ends name past pending after (told_as (K.state seen) (K.state entry)) (K.state result.0)
+        message.now status result.1 }
+    ensures unopened { (name : List ℕ) (fault : ALoadFault) (entry seen : K)
+        → IsUnopened name fault (told_as (K.state seen) (K.state entry)) (K.state desk)
+        → EndsUnmade name (told_as (K.state seen) (K.state entry)) (K.state result.0) message.now status result.1 }
     ensures concludes { Concludes (K.state desk) (K.state result.0) result.1 }
     ensures status { result.1 ≢ UNSAID → result.1 ≡ status }
 {
@@ -38,13 +39,14 @@ pub fn end_with<K: Desk>(mut desk: K, message: &[u8], status: u8) -> (K, u8)
 pub fn end_with_text<K: Desk>(desk: K, text: Result<Vec<u8>, Memory>, status: u8) -> (K, u8)
     requires apart { status ≢ UNSAID }
     ensures reached { (message : List ℕ) → IfOk text (λ t. t.items ≡ message)
-        → (name : List ℕ) (past pending after : List Command) (entry : K)
-        → Reached name past pending after (K.state entry) (K.state desk)
-        → Ends name past pending after (K.state entry) (K.state result.0) message status result.1 }
+        → (name : List ℕ) (past pending after : List Command) (entry seen : K)
+        → Reached name past pending after (told_as (K.state seen) (K.state entry)) (K.state desk)
+        → Ends name past pending after (told_as (K.state seen) (K.state entry)) (K.state result.0)
+        message status result.1 }
     ensures unopened { (message : List ℕ) → IfOk text (λ t. t.items ≡ message)
-        → (name : List ℕ) (fault : ALoadFault) (entry : K)
-        → IsUnopened name fault (K.state entry) (K.state desk)
-        → EndsUnmade name (K.state entry) (K.state result.0) message status result.1 }
+        → (name : List ℕ) (fault : ALoadFault) (entry seen : K)
+        → IsUnopened name fault (told_as (K.state seen) (K.state entry)) (K.state desk)
+        → EndsUnmade name (told_as (K.state seen) (K.state entry)) (K.state result.0) message status result.1 }
     ensures stopped { IsErr text → result.1 ≡ OUT_OF_MEMORY }
     ensures concludes { Concludes (K.state desk) (K.state result.0) result.1 }
     ensures status { result.1 ≢ UNSAID → (result.1 ≡ status) ⊎ (result.1 ≡ OUT_OF_MEMORY) }
@@ -58,8 +60,9 @@ pub fn end_with_text<K: Desk>(desk: K, text: Result<Vec<u8>, Memory>, status: u8
 /// Says why a board couldn't be opened, unless memory ran out.
 pub fn end_unopened<K: Desk>(alloc: Global, desk: K, fault: LoadFault) -> (K, u8)
     requires new_format { fault ≢ LoadFault.Old }
-    ensures ends { (name : List ℕ) (entry : K) → IsUnopened name fault (K.state entry) (K.state desk)
-        → EndsUnopened name (K.state entry) (K.state result.0) result.1 }
+    ensures ends { (name : List ℕ) (entry seen : K)
+        → IsUnopened name fault (told_as (K.state seen) (K.state entry)) (K.state desk)
+        → EndsUnopened name (told_as (K.state seen) (K.state entry)) (K.state result.0) result.1 }
     ensures concludes { Concludes (K.state desk) (K.state result.0) result.1 }
     ensures failed { result.1 ≡ DISK_FAILED → fault ≡ LoadFault.Disk }
     ensures apart { (result.1 ≢ UNREAD) × (result.1 ≢ UNHIRED) }

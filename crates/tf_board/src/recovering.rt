@@ -42,7 +42,7 @@ impl Replay for Kept {
 pub fn read_commands<K: Desk>(alloc: Global, journal: &mut Journal<K>) -> Result<Kept, LoadFault>
     requires in_file { journal.old.volatile ≡ false }
     requires title { journal.old.title ≡ jobs_title }
-    ensures read { IfOk result (λ kept. HasReadBoard K.state journal.old kept) }
+    ensures read { IfOk result (λ kept. HasReadBoard K.state journal.old journal.new.desk kept) }
     ensures fails { IfErr result (λ fault. FailsToReadBack K.state IsRefusedCommand
         fault journal.old journal.new.desk) }
     ensures reads { OnlyReads K.state journal.old journal.new }

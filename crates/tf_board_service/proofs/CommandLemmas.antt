@@ -6,7 +6,7 @@ use Rattle.std.specs.Prelude.{IfSome, IsTrue, unwrap_or}
 use Rattle.std.specs.List.{All}
 use Rattle.tf_numbers.specs.Numbers.{Rises}
 use Rattle.tf_desk.specs.Crash.{ShowsPrefix}
-use Rattle.tf_desk.specs.State.{DeskState, anything, MayLeave, OnDisk, Says}
+use Rattle.tf_desk.specs.State.{DeskState, anything, MayLeave, told_as, OnDisk, Says}
 use Rattle.tf_desk.proofs.CountLemmas.{rises_later}
 use Rattle.tf_desk.proofs.StateLemmas.{on_disk_on, on_disk_told}
 use Rattle.tf_journal.specs.Start.{IsSet, Path, file_of}
@@ -21,6 +21,7 @@ use Rattle.tf_board.specs.declared.commands.Command.{Command}
 use Rattle.tf_board.proofs.ActLemmas.{reached_back}
 use Rattle.tf_board.proofs.DeskLaws.{KeepsLaws}
 use Rattle.tf_board.proofs.EndLemmas.{causes_so, concludes_none, concludes_said, opened_reached, reached_ends, reached_stops, unopened_ends, unopened_stops}
+use Rattle.tf_board.proofs.ToldLemmas.{told_to_end}
 use Rattle.tf_ports.specs.Ports.{DoorTold, SeenLink, opened_at}
 use Rattle.tf_ports.specs.declared.crews.Address.{Address}
 use Rattle.tf_shared_board.specs.Shared.{followed_by, HasCause, IsShared, IsUnrecorded, LeavesSome, SharedValue, HaltsFor, halt_status}
@@ -199,6 +200,13 @@ halt_listened None = λ is. cc
 halt_listened (Some halt.Disk) = λ is. cc
 halt_listened (Some (halt.Full size need)) = λ is. cc
 halt_listened (Some halt.Memory) = λ is. cc
+
+-- ---- what is told to the end
+
+pub serves_to_end : {name : List ℕ} {address : Address} {count : ℕ} {old new : DoorTold} (entry mid : DeskState) {now : DeskState} {status : ℕ} → now.tells ≡ mid.tells
+    → ServesBoard name address count old new (told_as mid entry) now status → ServesBoard name address count old new (told_as now entry) now status
+serves_to_end {name} {address} {count} {old} {new} entry mid {now} {status} same serves =
+    subst (λ (s : DeskState). ServesBoard name address count old new s now status) (told_to_end entry mid now same) serves
 
 -- ---- statuses
 

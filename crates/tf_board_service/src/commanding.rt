@@ -1,5 +1,6 @@
 // The command that serves a board.
-ghost use Rattle.std.specs.Prelude.{◌≡◌, ◌≢◌, ◌⊎◌, ◌≤◌, ℕ, List, false, map, vec_len, IfOk, IfErr};
+ghost use Rattle.std.specs.Prelude.{◌≡◌, ◌≢◌, ◌⊎◌, ◌≤◌, ℕ, IsTrue, List, false, map, vec_len, IfOk, IfErr};
+ghost use Rattle.tf_desk.specs.State.{told_as};
 ghost use Rattle.tf_board.specs.Board.{IsOpened};
 ghost use Rattle.tf_board_service.specs.Sessions.{GivesBack, GivesInVain, HasServiceCauses, SaysOrStops, ServesBoard, gave_links};
 ghost use Rattle.tf_numbers.specs.Numbers.{Rises};
@@ -19,7 +20,9 @@ use tf_shared_board::{SharedBoard, halt_status};
 use tf_values::{Memory, Text};
 
 /// Opens the board of that name and the door at the address, waits for so many links, and serves them side by side, each in a
-/// session of its own. Then a line is said for each session, and why the board doesn't go on, if it doesn't.
+/// session of its own. Then a line is said for each session, and why the board doesn't go on, if it doesn't. What is told
+/// of the file, and what a crash leaves, is told as far as the desk tells after the call, and it tells then only where it
+/// told before.
 pub fn serve_command<K: Desk + Send, D: Door, R: Threads + Wait + Sync>(
     rt: &R,
     alloc: Global,
@@ -31,9 +34,10 @@ pub fn serve_command<K: Desk + Send, D: Door, R: Threads + Wait + Sync>(
 ) -> (K, u8)
     requires few { (1 ≤ count) × (count ≤ 64) }
     ensures serves { ServesBoard name.now address.now count (D.told door.old) (D.told door.new)
-        (K.state desk) (K.state result.0) result.1 }
-    ensures causes { HasServiceCauses (K.state desk) (K.state result.0)
+        (told_as (K.state result.0) (K.state desk)) (K.state result.0) result.1 }
+    ensures causes { HasServiceCauses (told_as (K.state result.0) (K.state desk)) (K.state result.0)
         (D.faults door.old) (D.faults door.new) result.1 }
+    ensures falls { IsTrue (K.state result.0).tells → IsTrue (K.state desk).tells }
 {
     match open(alloc, desk, name) {
         Ok(board) => listen_and_serve(rt, alloc, address, count, board, door),
@@ -69,11 +73,14 @@ fn listen_and_serve<K: Desk + Send, D: Door, R: Threads + Wait + Sync>(
 ) -> (K, u8)
     requires few { (1 ≤ count) × (count ≤ 64) }
     requires sound { board.journal.halted ≡ false }
-    ensures serves { (name : List ℕ) (entry : K) → IsOpened K.state name (K.state entry) board
+    ensures serves { (name : List ℕ) (entry seen : K)
+        → IsOpened K.state name (told_as (K.state seen) (K.state entry)) board
         → ServesBoard name address.now count (D.told door.old) (D.told door.new)
-        (K.state entry) (K.state result.0) result.1 }
-    ensures causes { (name : List ℕ) (entry : K) → IsOpened K.state name (K.state entry) board
-        → HasServiceCauses (K.state entry) (K.state result.0) (D.faults door.old) (D.faults door.new) result.1 }
+        (told_as (K.state seen) (K.state entry)) (K.state result.0) result.1 }
+    ensures causes { (name : List ℕ) (entry seen : K)
+        → IsOpened K.state name (told_as (K.state seen) (K.state entry)) board
+        → HasServiceCauses (told_as (K.state seen) (K.state entry)) (K.state result.0)
+        (D.faults door.old) (D.faults door.new) result.1 }
 {
     match door.listen(alloc, address) {
         Ok(()) => accept_and_serve(rt, alloc, count, board, door),
@@ -92,11 +99,15 @@ fn accept_and_serve<K: Desk + Send, D: Door, R: Threads + Wait + Sync>(
 ) -> (K, u8)
     requires few { (1 ≤ count) × (count ≤ 64) }
     requires sound { board.journal.halted ≡ false }
-    ensures serves { (name : List ℕ) (address : AnAddress) (before : DoorTold) (entry : K)
-        → IsOpened K.state name (K.state entry) board → D.told door.old ≡ opened_at before address
-        → ServesBoard name address count before (D.told door.new) (K.state entry) (K.state result.0) result.1 }
-    ensures causes { (name : List ℕ) (entry : K) → IsOpened K.state name (K.state entry) board
-        → HasServiceCauses (K.state entry) (K.state result.0) (D.faults door.old) (D.faults door.new) result.1 }
+    ensures serves { (name : List ℕ) (address : AnAddress) (before : DoorTold) (entry seen : K)
+        → IsOpened K.state name (told_as (K.state seen) (K.state entry)) board
+        → D.told door.old ≡ opened_at before address
+        → ServesBoard name address count before (D.told door.new)
+        (told_as (K.state seen) (K.state entry)) (K.state result.0) result.1 }
+    ensures causes { (name : List ℕ) (entry seen : K)
+        → IsOpened K.state name (told_as (K.state seen) (K.state entry)) board
+        → HasServiceCauses (told_as (K.state seen) (K.state entry)) (K.state result.0)
+        (D.faults door.old) (D.faults door.new) result.1 }
 {
     match accept_all(alloc, count, door) {
         Ok(links) => serve_over(rt, alloc, board, links, door),
@@ -158,13 +169,16 @@ fn serve_over<K: Desk + Send, D: Door, R: Threads + Wait + Sync>(
 ) -> (K, u8)
     requires few { (1 ≤ vec_len links) × (vec_len links ≤ 64) }
     requires sound { board.journal.halted ≡ false }
-    ensures serves { (name : List ℕ) (address : AnAddress) (before : DoorTold) (entry : K)
-        → IsOpened K.state name (K.state entry) board → D.told door.old ≡ gave_links (opened_at before address)
+    ensures serves { (name : List ℕ) (address : AnAddress) (before : DoorTold) (entry seen : K)
+        → IsOpened K.state name (told_as (K.state seen) (K.state entry)) board
+        → D.told door.old ≡ gave_links (opened_at before address)
         (map (seen_link D.Made.left D.Made.sent D.Made.faults D.Made.ends) links.items)
         → ServesBoard name address (vec_len links) before (D.told door.new)
-        (K.state entry) (K.state result.0) result.1 }
-    ensures causes { (name : List ℕ) (entry : K) → IsOpened K.state name (K.state entry) board
-        → HasServiceCauses (K.state entry) (K.state result.0) (D.faults door.old) (D.faults door.new) result.1 }
+        (told_as (K.state seen) (K.state entry)) (K.state result.0) result.1 }
+    ensures causes { (name : List ℕ) (entry seen : K)
+        → IsOpened K.state name (told_as (K.state seen) (K.state entry)) board
+        → HasServiceCauses (told_as (K.state seen) (K.state entry)) (K.state result.0)
+        (D.faults door.old) (D.faults door.new) result.1 }
 {
     let mut links = links;
     let shared = SharedBoard::make(alloc, board);
