@@ -90,7 +90,7 @@ returns-clause-read g c =
     let size : c.size.result ≡ c.args.journal.now.size = c.size.ensures ∙ ap (λ (h : Held _). h.size) reads.journal in
     read_out g.K.Desk.state g.R.Replay.replayed _ _ c.next_body.new.journal.desk _ _ l.read l.reads
     (λ before rest told_now rest_now at. subst (λ (v : Bool). IsNext v rest c.next_body.new.body.items) c.if-not-branch.true (c.in_ok-next_body.ensures.found l.window before rest told_now rest_now at))
-          c.next_body.ensures.reads.rests.falls
+    c.next_body.ensures.reads.rests.falls
     (omega (arith, size, c.if-place-size.false)) c.in_ok-next_body.ensures.within
 
 pub returns-in_err-next_body-clause-reads : goal.returns-in_err-next_body-clause-reads
