@@ -1,7 +1,5 @@
 //! How the flow of a book of one flow is read body by body.
-ghost use Rattle.std.specs.Prelude.{◌≡◌, ◌<◌, ◌∷◌, [], ℕ, List, length, OnOk, IfOk, IsErrOf};
-ghost use Rattle.tf_flow.specs.Plan.{PlanValue};
-ghost use Rattle.tf_states.specs.declared.record.Entry.{Entry as Record};
+ghost use Rattle.std.specs.Prelude.{◌<◌, ◌∷◌, [], List, OnOk, IfOk, IsErrOf};
 ghost use Rattle.tf_details.specs.Elements.{Element, IsNoPlan, IsNoEntry};
 ghost use Rattle.tf_details.specs.Reading.{AreMachinesOf};
 ghost use Rattle.tf_migration.specs.Reading.{HasReadFlow, HasReadEntry};

@@ -1,4 +1,3 @@
-use Rattle.tf_desk.specs.State.{told_as}
 use Rattle.tf_desk.proofs.StateLemmas.{told_through}
 use Rattle.tf_book.specs.Shelf.{desk_of}
 use Rattle.tf_commands.specs.Books.{unopened_book, Unfound}

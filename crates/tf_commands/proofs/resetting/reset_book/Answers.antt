@@ -1,4 +1,3 @@
-use Rattle.tf_desk.specs.State.{told_as}
 use Rattle.tf_desk.proofs.StateLemmas.{told_through}
 use Rattle.tf_commands.specs.Books.{unfound_reset, ResetsBook}
 use Rattle.tf_commands.proofs.CountLemmas.{open_reaches, causes_from}

@@ -1,5 +1,4 @@
 use Rattle.std.proofs.Common.{arith}
-use Rattle.tf_desk.specs.State.{told_as}
 use Rattle.tf_desk.proofs.StateLemmas.{told_through}
 use Rattle.tf_commands.specs.Books.{unfound_show, ShowsBook}
 use Rattle.tf_commands.proofs.CountLemmas.{open_reaches, said_causes}

@@ -1,5 +1,4 @@
 use Rattle.std.proofs.Common.{refl}
-use Rattle.tf_desk.specs.State.{told_as}
 use Rattle.tf_desk.proofs.StateLemmas.{told_through}
 use Rattle.tf_board.specs.Does.{HasCauses}
 use Rattle.tf_board.proofs.EndLemmas.{unopened_causes}
