@@ -304,10 +304,6 @@ HoldsReverted wanted found = HoldsFlow wanted found
 abbrev pub HasBook : List ℕ → DeskState → (Recovered → Type 0) → Type 0
 HasBook name entry is = IsTrue entry.tells × is (book_at entry name)
 
--- the file of that name is a board on which the command isn't refused, and the desk tells so
-abbrev pub HasBoard : List ℕ → DeskState → BoardRequest → Type 0
-HasBoard name entry request = IsTrue entry.tells × IsAllowed request (board_in (file_of entry name))
-
 -- the file of that name is a board, and the desk tells so
 abbrev pub HasSomeBoard : List ℕ → DeskState → Type 0
 HasSomeBoard name entry = IsTrue entry.tells × IsBoard (board_in (file_of entry name))
@@ -330,7 +326,8 @@ MayBeDone (asked.Audit file log sets defer) files entry =
     IsAccepted (source_so file sets defer None) files × ¬ (RefusesLog files (source_so file sets defer None) log)
 MayBeDone (asked.Demo seed size book hands) files entry = HasBook book entry (HasPlace (demo_tree seed size))
 MayBeDone (asked.Worker address sessions) files entry = Unit {0}
-MayBeDone (asked.Board board request) files entry = HasBoard board entry request
+MayBeDone (asked.Board board request) files entry =
+    IsTrue entry.tells × IsAllowed request (board_in (file_of entry board))
 MayBeDone (asked.Conduct board owner hands) files entry = HasSomeBoard board entry
 MayBeDone (asked.Serve board address sessions) files entry = HasSomeBoard board entry
 

@@ -103,17 +103,15 @@ pub record StaysAlone (name : List ℕ) (entry now : DeskState) (closing : List 
 
 -- ---- a run over a book
 
--- it stays as it was found at first; or it was unborn, and is a book without a record
-abbrev pub StaysAs : Recovered → Recovered → Type 0
-StaysAs first found = (found ≡ first) ⊎ ((first ≡ unborn) × (found ≡ bodies []))
-
 -- it holds the contents with these entries of the detail behind them
 abbrev pub HoldsWith : Contents → List Entry → Recovered → Type 0
 HoldsWith contents entries found = HoldsElements (with_entries contents entries).elements found
 
--- recovery finds that, and so every other detail as it was; or the detail didn't begin, and no entry was recorded
+-- recovery finds that, and so every other detail as it was; or the detail didn't begin, and no entry was recorded: it
+-- stays as it was found at first, or it was unborn, and is a book without a record
 abbrev pub FindsSince : Recovered → Contents → List Entry → Recovered → Type 0
-FindsSince first contents entries found = HoldsWith contents entries found ⊎ ((entries ≡ []) × StaysAs first found)
+FindsSince first contents entries found = HoldsWith contents entries found
+    ⊎ ((entries ≡ []) × ((found ≡ first) ⊎ ((first ≡ unborn) × (found ≡ bodies []))))
 
 -- what is shown after a crash: a prefix of the lines of the entries that recovery finds, or, where these are all that
 -- the call recorded and perhaps the pending one, all lines of the recorded entries and a prefix of the closing
@@ -134,12 +132,6 @@ pub record MayLeave (first : Recovered) (contents : Contents) (plan : PlanValue)
   pub finds : FindsSince first contents kept (book_in image)
   pub spoken : IsShownThen plan quiet before entries kept shown closing text
 
--- the file has the contents with the entries behind them, and after a disk fault perhaps the pending entry besides;
--- where nothing was recorded, it may still be as it was found at first
-abbrev pub HasFile : Recovered → Contents → (entries pending : List Entry) → Recovered → Type 0
-HasFile first contents entries pending found =
-    FindsSince first contents entries found ⊎ HoldsWith contents (pending ++ entries) found
-
 -- at most one entry is pending behind the history, which it may follow as such an entry does, and only after a fault of
 -- the disk
 pub record IsPendingSo (may : List Entry → Entry → Type 0) (plan : PlanValue) (past pending : List Entry)
@@ -147,13 +139,16 @@ pub record IsPendingSo (may : List Entry → Entry → Type 0) (plan : PlanValue
   pub few : MayFollow (may past) plan past pending
   pub caused : (pending ≡ []) ⊎ Rises old.disk_faults new.disk_faults
 
--- what is promised of the file and of a crash, where the desk tells its content and such an entry may be recorded; of a
--- file that held no flow and had at most 18 bytes, where no fault of the disk came, each byte is told
+-- what is promised of the file and of a crash, where the desk tells its content and such an entry may be recorded: the
+-- file has the contents with the entries behind them, and after a disk fault perhaps the pending one besides, or it may
+-- still be as it was found at first, where nothing was recorded; of a file that held no flow and had at most 18 bytes,
+-- where no fault of the disk came, each byte is told
 pub record Lasts (may : List Entry → Entry → Type 0) (name : List ℕ) (contents : Contents) (plan : PlanValue)
     (quiet : Bool) (before entries : List Entry) (entry now : DeskState) (closing : List ℕ) : Type 0 where
   pub pending : List Entry
   pub few : IsPendingSo may plan (entries ++ before) pending entry now
-  pub file : HasFile (book_at entry name) contents entries pending (book_at now name)
+  pub file : FindsSince (book_at entry name) contents entries (book_at now name)
+      ⊎ HoldsWith contents (pending ++ entries) (book_at now name)
   pub exact : HoldsNoFlow (book_at entry name) → length (file_of entry name) ≤ 18
       → ¬ (Rises entry.disk_faults now.disk_faults)
       → HoldsWith contents entries (book_at now name)
@@ -356,13 +351,9 @@ abbrev pub AreAllBack : Want → GivenBack → Type 0
 AreAllBack hands None = Unit {0}
 AreAllBack hands (Some back) = length back ≡ number_of hands
 
--- the hands that were wanted were hired, and nobody else
-abbrev pub HiresFor : Want → CrewTold → CrewTold → Type 0
-HiresFor hands crew crew_after = crew_after.hired ≡ told_with crew.hired hands
-
--- so it was, and all were given back
+-- the hands that were wanted were hired, and nobody else; and all were given back
 pub record Hires (hands : Want) (crew crew_after : CrewTold) : Type 0 where
-  pub hired : HiresFor hands crew crew_after
+  pub hired : crew_after.hired ≡ told_with crew.hired hands
   pub back : AreAllBack hands crew_after.back
 
 -- what the file of that name is, where the desk tells its content

@@ -128,10 +128,6 @@ refusal reason = codes "taskflow: flow file: " ++ reason ++ 10 ∷ []
 abbrev pub usage : List ℕ
 usage = codes "taskflow: usage\n"
 
--- the message for a log that is longer than one may be
-abbrev pub log_too_long : List ℕ
-log_too_long = codes "taskflow: audit: too long\n"
-
 -- the message for a book that holds no flow
 abbrev pub no_flow_text : List ℕ
 no_flow_text = codes "taskflow: no flow in the book\n"
@@ -194,7 +190,8 @@ pub data Audits (files : Contents) (log : List ℕ) (before after : Option (List
   -- it can't be read
   unread_log : ClosesWith before cannot_read UNREAD after status → Audits files log before after plan status
   -- it is longer than a log may be
-  long_log : PassesLimit files log → ClosesWith before log_too_long LOG_REFUSED after status
+  long_log : PassesLimit files log
+      → ClosesWith before (codes "taskflow: audit: too long\n") LOG_REFUSED after status
       → Audits files log before after plan status
   -- its bytes are those that the sources have under its name, and not longer than a log may be
   audited : (bytes : List ℕ) → GivesBytes files log bytes → length bytes ≤ SOURCE_LIMIT
