@@ -21,8 +21,8 @@ use Rattle.tf_values.specs.declared.value.Val.TheVariants as value
 use Rattle.tf_words.specs.declared.spelled.Mark.TheVariants as mark
 use Rattle.tf_words.specs.declared.spelled.Quoting.TheVariants as quoting
 use Rattle.tf_words.specs.declared.verbs.Verb.TheVariants as verb
-use Rattle.tf_desk.specs.declared.files.Access.{Access}
-use Rattle.tf_desk.specs.declared.files.Access.TheVariants as access
+use Rattle.tf_desk.specs.declared.opened.Access.{Access}
+use Rattle.tf_desk.specs.declared.opened.Access.TheVariants as access
 use Rattle.tf_board.specs.declared.commands.JobAction.TheVariants as action
 
 -- ---- how a text stands in quotes, read from its opening quote on
