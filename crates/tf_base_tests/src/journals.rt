@@ -3,10 +3,9 @@ ghost use Rattle.tf_desk.specs.Acts.{content_after};
 ghost use Rattle.tf_desk.specs.Crash.{bytes_of};
 
 use std::alloc::Global;
-use std::marker::Brand;
 use std::process::Abort;
 use std::test::Fail;
-use tf_desk::{Access, Desk, FileDesk, MemoryDesk};
+use tf_desk::{Desk, MemoryDesk};
 use tf_journal::{AppendFault, Journal, ScanFault, Scanned, Title, scan};
 use tf_values::Text;
 
@@ -88,7 +87,7 @@ fn a_full_journal_refuses_by_its_two_numbers(rt: HostRuntime) -> Result<(), Fail
     let alloc = rt.alloc();
     let body = sevens(alloc, 1_048_576)?;
     let last = sevens(alloc, 1_048_230)?;
-    let Ok(mut journal) = Journal::volatile(alloc, FileDesk::<HostRuntime, Brand>::make(rt.clone()?, Access::Own)) else {
+    let Ok(mut journal) = Journal::volatile(alloc, desk(alloc, &[])?) else {
         return Err(Fail::from("not made"));
     };
     for _ in 0..63 {

@@ -235,7 +235,7 @@ runs_well name crew crew_after entry now tree status u unasked told has (too_man
 runs_well {gives} {request} name crew crew_after entry now tree status u unasked told has (unhired_run elements plan same found place is) = out_well_by request.limit status (unhired_well name entry now crew crew_after status u is)
 runs_well name crew crew_after entry now tree status u unasked told has (hired_run elements plan same found place hires a) = anew_well name elements plan entry now status u unasked a
 
-demonstrates_well : {K : Type 0} {state : K → DeskState} {gives : Order → Outcome → Type 0} {hands : Want} {asked : Type 0} (name : List ℕ) (crew crew_after : CrewTold) (entry now : K) (seed size status : ℕ) → IsUnhurt status → ¬ asked → IsTrue (state entry).tells
+demonstrates_well : {K : Type 0} {state : K → DeskState} {gives : Order → Outcome → Type 0} {hands : Want} {asked : Type 0} (name : List ℕ) (crew crew_after : CrewTold) (entry now : K) (seed size status : ℕ) → IsUnhurt status → ¬ asked → IsTrue (state now).tells
     → HasPlace (demo_tree seed size) (book_at (told_as (state now) (state entry)) name) → Demonstrates state gives hands asked name crew crew_after entry now seed size status → IsRunComplete status
 demonstrates_well name crew crew_after entry now seed size status u unasked told has (ungenerated is same still) = out_well status is
 demonstrates_well {K} {state} name crew crew_after entry now seed size status u unasked told has (demonstrated runs) =

@@ -126,6 +126,11 @@ module _ {K : Type 0} (state : K → DeskState) where
       let off = r.off_disk volatile in
       subst (λ (d : K). TouchesNoFile (state d) now) desk_is (off.files, off.disk_faults)
 
+  -- and what the desk tells stays
+  pub tells_run : {gives : Order → Outcome → Type 0} {request : Request} {asked : Type 0} {did : List (Option (List Order))} (entry : K) {book : BookValue K} {now : DeskState} {status : ℕ} → book.journal.desk ≡ entry
+      → RunsOn state gives request asked did book now status → now.tells ≡ (state entry).tells
+  tells_run entry {book} {now} desk_is r = subst (λ (d : K). now.tells ≡ (state d).tells) desk_is r.continues.extends.tells
+
   -- it couldn't begin, and only said so
   pub stays_unbegun : {why : Halt} (entry mid : K) (now : DeskState) (status : ℕ) → mid ≡ entry → HasSaidHalt why (state mid) now status → TouchesNoFile (state entry) now
   stays_unbegun entry mid now status same s =

@@ -42,6 +42,7 @@ pub fn try_file<K: Desk + Send, S: Sources, W: Crew, R: Threads + Wait + Sync>(
         (W.told crew.old) (W.told crew.new) (K.state desk).shown (K.state result.desk).shown)
         (K.state desk).shown (K.state result.desk).shown result.status }
     ensures stays { TouchesNoFile (K.state desk) (K.state result.desk) }
+    ensures tells { (K.state result.desk).tells ≡ (K.state desk).tells }
     ensures hires { HiresAtMost request.now.want (W.told crew.old) (W.told crew.new) }
     ensures asks { (K.state desk).asks ≤ (K.state result.desk).asks }
     ensures causes { HasEachCause result.status (counts_of (K.state desk) (S.faults sources.old) (W.faults crew.old))
@@ -71,6 +72,7 @@ fn try_plan<K: Desk + Send, W: Crew, R: Threads + Wait + Sync>(
         (W.told crew.old) (W.told crew.new) (K.state desk).shown (K.state result.desk).shown
         (plan_tree machine.plan) result.status }
     ensures stays { TouchesNoFile (K.state desk) (K.state result.desk) }
+    ensures tells { (K.state result.desk).tells ≡ (K.state desk).tells }
     ensures hires { HiresAtMost request.now.want (W.told crew.old) (W.told crew.new) }
     ensures asks { (K.state desk).asks ≤ (K.state result.desk).asks }
     ensures causes { HasEachCause result.status (counts_of (K.state desk) 0 (W.faults crew.old))
@@ -112,6 +114,7 @@ fn try_with<K: Desk + Send, P: Performer + Send, R: Threads + Wait + Sync>(
         (Some (map P.did hands.new.items)) (plan_tree machine.plan)
         (K.state desk).shown (K.state result.desk).shown result.status }
     ensures stays { TouchesNoFile (K.state desk) (K.state result.desk) }
+    ensures tells { (K.state result.desk).tells ≡ (K.state desk).tells }
     ensures asks { (K.state desk).asks ≤ (K.state result.desk).asks }
     ensures causes { HasEachCause result.status (counts_of (K.state desk) 0 0)
         (counts_of (K.state result.desk) 0 0) }

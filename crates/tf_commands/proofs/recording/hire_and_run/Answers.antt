@@ -25,7 +25,7 @@ returns-in-Ok-Remote-clause-runs g c = λ name entry seen so.
 pub returns-in-Err-clause-runs : goal.returns-in-Err-clause-runs
 returns-in-Err-clause-runs g c = λ name entry seen so.
     let D = g.K.Desk in
-    inl (told_still (λ before. Unhired name before (D.state c.say_unhired.result.desk) _ _ c.say_unhired.result.status) (told_as (g.K.Desk.state seen) (g.K.Desk.state entry))
+    inl (told_still (λ before. Unhired name before (D.state c.say_unhired.result.desk) (g.W.Crew.told c.args.crew.now) (g.W.Crew.told c.hire.new.self) c.say_unhired.result.status) (told_as (g.K.Desk.state seen) (g.K.Desk.state entry))
     (c.say_unhired.ensures.said.says.tells ∙ ap (λ k. (D.state k).tells) c.close.ensures ∙ so.opened.untouched.told)
     (unhired_so c.in-Err.ensures.not_hired (c.say_unhired.ensures.refuses name entry seen (untouched_by D.state _ _ (sym c.close.ensures) so.opened.untouched))))
 

@@ -1,5 +1,6 @@
 use Rattle.std.proofs.Common.{refl}
-use Rattle.tf_commands.specs.Books.{Runs}
+use Rattle.tf_desk.proofs.StateLemmas.{told_still}
+use Rattle.tf_commands.specs.Books.{NoFileChanges, Runs}
 use Rattle.tf_commands.proofs.BehaviourLemmas.{done_file, undone_file}
 use Rattle.tf_commands.proofs.recording.run_file.Goals as goal
 
@@ -10,4 +11,4 @@ returns-in-Ok-clause-runs g c =
 
 pub returns-in-Err-clause-runs : goal.returns-in-Err-clause-runs
 returns-in-Err-clause-runs g c =
-    undone_file _ c.args.source _ _ (Runs _ c.args.request.now _ _ _ _ _ _) _ _ c.in-Err.status (λ still. (refl, still)) c.in-Err.ensures.closed
+    undone_file _ c.args.source _ _ (Runs _ c.args.request.now _ _ _ _ _ _) _ _ c.in-Err.status (λ still. (refl, told_still (λ before. NoFileChanges before (g.K.Desk.state c.open_file.new.desk)) (g.K.Desk.state c.args.desk) c.open_file.ensures.says.tells still)) c.in-Err.ensures.closed

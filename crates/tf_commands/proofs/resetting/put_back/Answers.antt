@@ -83,7 +83,7 @@ returns-in-Err-Book-clause-causes g c =
 pub returns-in-Ok-clause-tells : goal.returns-in-Ok-clause-tells
 returns-in-Ok-clause-tells g c =
     let kept = c.reset.ensures.proceeds.keeps c.args.book (keeps_none g.K.Desk.state c.args.book c.requires.sound) in
-    rw (sym c.close.ensures.desk) at kept.continues.tells
+    rw (sym c.close.ensures.desk) at kept.continues.extends.tells
 
 pub returns-in-Err-Book-clause-tells : goal.returns-in-Err-Book-clause-tells
 returns-in-Err-Book-clause-tells g c =
@@ -93,4 +93,4 @@ returns-in-Err-Book-clause-tells g c =
       put = c.in-Err-Book.ensures.cut;
       speaks = c.requires.speaks;
       failed = reset_failed c.args.book c.reset.new.self c.reset.ensures.proceeds.plan (c.in-Err-Book.ensures.tried c.requires.sound);
-    })).continues.tells
+    })).continues.extends.tells

@@ -28,3 +28,11 @@ returns-in-Success-clause-causes g c =
     let runs = ended_on D.state (gives_by g.W.Hand.Performer.gives g.W.Far.Performer.gives c.args.request.now.want) c.args.request.now (WasAsked (D.state c.args.book.journal.desk) now) c.args.book now c.report_ended.result.status c.state-state.result
     c.requires.sound c.requires.speaks at.is (ended_so c.state-state.result c.in-Success.is) at.history (record { held = at.held; told = at.told }) at.limits at.short (c.report_ended.ensures.runs c.args.book c.requires.spoken) in
     ran_causes reaches_itself runs.continues runs.ended (omega arith) c.report_ended.ensures.apart
+
+pub returns-in-Success-clause-tells : goal.returns-in-Success-clause-tells
+returns-in-Success-clause-tells g c =
+    let D = g.K.Desk in
+    let now = D.state c.report_ended.result.desk in
+    let at = c.state-state.ensures in
+    (ended_on D.state (gives_by g.W.Hand.Performer.gives g.W.Far.Performer.gives c.args.request.now.want) c.args.request.now (WasAsked (D.state c.args.book.journal.desk) now) c.args.book now c.report_ended.result.status c.state-state.result
+    c.requires.sound c.requires.speaks at.is (ended_so c.state-state.result c.in-Success.is) at.history (record { held = at.held; told = at.told }) at.limits at.short (c.report_ended.ensures.runs c.args.book c.requires.spoken)).continues.extends.tells

@@ -1,6 +1,8 @@
 use Rattle.std.proofs.Common.{refl}
 use Rattle.tf_desk.specs.State.{told_as}
 use Rattle.tf_desk.proofs.StateLemmas.{told_through}
+use Rattle.tf_ports.specs.Ports.{gives_by}
+use Rattle.tf_commands.specs.Asking.{WasAsked}
 use Rattle.tf_commands.specs.Books.{unfound_again, Resumes}
 use Rattle.tf_commands.proofs.BookLemmas.{resumed_over}
 use Rattle.tf_commands.proofs.AskedLemmas.{resumes_more}
@@ -15,7 +17,7 @@ returns-in-Ok-clause-resumes g c =
     let e = c.in-Ok.ensures in
     resumes_more _ c.args.request.now _ _ c.args.name.now c.args.wanted.now _ _ (told_as (D.state c.go_on.result.desk) (D.state c.args.desk)) (D.state c.go_on.result.desk) c.go_on.result.status
     (λ rose. rises_later (D.state c.args.desk).asks (D.state book.journal.desk).asks (D.state c.go_on.result.desk).asks e.asks rose)
-    (told_through (λ before. Resumes _ c.args.request.now _ c.args.name.now c.args.wanted.now _ _ before (D.state c.go_on.result.desk) c.go_on.result.status) (D.state c.args.desk) c.go_on.ensures.tells
+    (told_through (λ before. Resumes (gives_by g.W.Hand.Performer.gives g.W.Far.Performer.gives c.args.request.now.want) c.args.request.now (WasAsked (D.state book.journal.desk) (D.state c.go_on.result.desk)) c.args.name.now c.args.wanted.now (g.W.Crew.told c.args.crew.now) (g.W.Crew.told c.go_on.new.crew) before (D.state c.go_on.result.desk) c.go_on.result.status) (D.state c.args.desk) c.go_on.ensures.tells
     (resumed_over book e.ready.runs e.holds (c.go_on.ensures.goes c.args.name.now c.args.wanted.now c.args.desk book.journal.desk e.opened.does e.holds)))
 
 pub returns-in-Ok-clause-causes : goal.returns-in-Ok-clause-causes

@@ -25,3 +25,6 @@ returns-in-Err-clause-tried g c =
     undone_file _ c.args.source (NoFileChanges entry now) (IsUntouched crew crew entry now)
     (Tries (gives_by g.W.Hand.Performer.gives g.W.Far.Performer.gives c.args.request.now.want) c.args.request.now.want (WasAsked entry now) crew crew entry.shown now.shown)
     _ _ c.in-Err.status (λ still. (refl, still)) c.in-Err.ensures.closed
+
+pub returns-in-Ok-clause-tells : goal.returns-in-Ok-clause-tells
+returns-in-Ok-clause-tells g c = rw c.in-Ok.ensures.same at c.try_plan.ensures.tells

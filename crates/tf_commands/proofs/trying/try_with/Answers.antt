@@ -1,7 +1,7 @@
 use Rattle.std.proofs.Common.{ap, refl, List, ◌∙◌, arith}
 use Rattle.tf_details.specs.Elements.{Element}
 use Rattle.tf_book.specs.Book.{begun_contents}
-use Rattle.tf_commands.proofs.TrialLemmas.{tried_run, tried_exhausted, tried_unbegun_on, start_said, unbegun_causes, causes_run, stays_run, stays_unbegun}
+use Rattle.tf_commands.proofs.TrialLemmas.{tried_run, tried_exhausted, tried_unbegun_on, start_said, unbegun_causes, causes_run, stays_run, stays_unbegun, tells_run}
 use Rattle.tf_commands.proofs.trying.try_with.Goals as goal
 use Rattle.tf_desk.proofs.CountLemmas.{rises_later}
 
@@ -49,3 +49,12 @@ pub returns-in-Err-clause-tried : goal.returns-in-Err-clause-tried
 returns-in-Err-clause-tried g c =
     tried_exhausted g.P.Performer.gives c.args.request.now.want _ _ c.args.machine.plan (g.K.Desk.state c.args.desk).shown (g.K.Desk.state c.in-Err.desk).shown 9
     refl (ap (λ (k : g.row.K.Denot). (g.K.Desk.state k).shown) c.in-Err.ensures.back) c.requires.idle
+
+pub returns-in-Ok-start-clause-tells : goal.returns-in-Ok-start-clause-tells
+returns-in-Ok-start-clause-tells g c =
+    tells_run g.K.Desk.state c.args.desk (c.in-Ok-start.ensures.volatile c.in-Ok.ensures.volatile ∙ c.in-Ok.ensures.desk) c.run_book.ensures.runs
+
+pub returns-in-Err-start-clause-tells : goal.returns-in-Err-start-clause-tells
+returns-in-Err-start-clause-tells g c =
+    let e = c.in-Err-start.ensures in
+    c.say_unbegun.ensures.says.says.tells ∙ ap (λ (k : g.row.K.Denot). (g.K.Desk.state k).tells) (e.volatile c.in-Ok.ensures.volatile ∙ c.in-Ok.ensures.desk)
