@@ -4,3 +4,4 @@ mod RemainingLemmas
 mod SocketLemmas
 mod FolderLemmas
 pub mod TellsLemmas
+pub mod TranscriptLemmas

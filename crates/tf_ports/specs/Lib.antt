@@ -1,3 +1,4 @@
+pub mod Transcript
 pub mod Ports
 pub mod MemoryCrew
 pub mod MemoryDialer

@@ -3,6 +3,7 @@
 use Rattle.std.specs.Prelude.{◌≡◌, ◌⊎◌, ℕ, ◌<◌, ◌≤◌, List, [], ◌++◌, length, take, map, Option, Some, None, option_map, vec_len}
 use Rattle.std.specs.List.{AllByRecursion}
 use Rattle.tf_ports.specs.declared.links.Came.{Came}
+use Rattle.tf_ports.specs.Transcript.{Passed}
 use Rattle.tf_actions.specs.declared.orders.Order.{Order}
 use Rattle.tf_actions.specs.declared.outcomes.Outcome.{Outcome}
 use Rattle.tf_actions.specs.Gives.{told_with}
@@ -13,26 +14,17 @@ use Rattle.tf_ports.specs.declared.links.Came.TheVariants as came
 use Rattle.tf_ports.specs.declared.crews.Hands.TheVariants as hands
 use Rattle.tf_ports.specs.declared.crews.Want.TheVariants as want
 
--- what is seen of a link: the bytes that it has left and those that it was sent, None where it doesn't tell them; and
--- its counts of faults and ends
+-- what is seen of a link: the bytes that it has left, None where it doesn't tell them; what passed over it; and its
+-- counts of faults and ends
 pub record SeenLink : Type 0 where
   pub left : Option (List ℕ)
-  pub sent : Option (List ℕ)
+  pub transcript : List Passed
   pub faults : ℕ
   pub ends : ℕ
 
-abbrev pub seen_link : {L : Type 0} → (L → Option (List ℕ)) → (L → Option (List ℕ)) → (L → ℕ) → (L → ℕ) → L → SeenLink
-seen_link left sent faults ends link =
-    record { left = left link; sent = sent link; faults = faults link; ends = ends link }
-
--- what was sent, with some bytes more; None, which tells nothing, stays None
-abbrev pub sent_with : Option (List ℕ) → List ℕ → Option (List ℕ)
-sent_with sent bytes = option_map (λ before. before ++ bytes) sent
-
--- some prefix of the bytes was sent: none of them, a part, or all
-pub record SendsPrefix (before : Option (List ℕ)) (bytes : List ℕ) (after : Option (List ℕ)) : Type 0 where
-  pub count : ℕ
-  pub prefix : after ≡ sent_with before (take count bytes)
+abbrev pub seen_link : {L : Type 0} → (L → Option (List ℕ)) → (L → List Passed) → (L → ℕ) → (L → ℕ) → L → SeenLink
+seen_link left transcript faults ends link =
+    record { left = left link; transcript = transcript link; faults = faults link; ends = ends link }
 
 -- what was left before these bytes were taken from its front; None, which tells nothing, stays None
 abbrev pub left_before : List ℕ → Option (List ℕ) → Option (List ℕ)

@@ -30,7 +30,7 @@ pub trait Door: Drop {
     fn accept(&mut self, alloc: Global) -> Result<Self::Made, PortFault>
         ensures gave { IfOk result (λ link. told self.new
             ≡ gave_link (told self.old)
-            (seen_link Self.Made.left Self.Made.sent Self.Made.faults Self.Made.ends link)) }
+            (seen_link Self.Made.left Self.Made.transcript Self.Made.faults Self.Made.ends link)) }
         ensures gave_none { OnErr result (told self.new ≡ told self.old) }
         ensures cause { IsErrOf result PortFault.Failed → Rises (faults self.old) (faults self.new) }
         ensures no_fall { faults self.old ≤ faults self.new };
@@ -40,7 +40,7 @@ pub trait Door: Drop {
     fn close(&mut self, link: Self::Made) -> Result<(), Memory>
         ensures returned { OnOk result (told self.new
             ≡ took_back (told self.old)
-            (seen_link Self.Made.left Self.Made.sent Self.Made.faults Self.Made.ends link)) }
+            (seen_link Self.Made.left Self.Made.transcript Self.Made.faults Self.Made.ends link)) }
         ensures not_returned { OnErr result (told self.new ≡ told self.old) }
         ensures no_fall { faults self.old ≤ faults self.new };
 }

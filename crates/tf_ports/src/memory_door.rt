@@ -98,8 +98,8 @@ impl<L: Link + Send> Door for MemoryDoor<L> {
 
     ghost told = { λ door. record {
       opened = Some door.opened;
-      given = Some (map (seen_link L.left L.sent L.faults L.ends) door.given);
-      returned = Some (map (seen_link L.left L.sent L.faults L.ends) door.returned);
+      given = Some (map (seen_link L.left L.transcript L.faults L.ends) door.given);
+      returned = Some (map (seen_link L.left L.transcript L.faults L.ends) door.returned);
     } };
 
     fn listen(&mut self, alloc: Global, address: &Address) -> Result<(), PortFault> {

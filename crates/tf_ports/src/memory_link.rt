@@ -1,9 +1,11 @@
 ghost use Rattle.std.specs.Prelude.{◌≡◌, ◌<◌, ◌≤◌, [], ◌++◌, drop, take, length, vec_len, Some, OnOk, OnErr};
 ghost use Rattle.tf_numbers.specs.Numbers.{Rises};
+ghost use Rattle.tf_ports.specs.Transcript.{sent_with, SendsPrefix};
 
 use crate::links::{Came, Link, LinkFault};
 use std::alloc::Global;
 use std::marker::Model;
+use tf_trace::Trace;
 
 /// A link in memory, with the bytes that it gives, a stated number of them at most at once. Its calls are
 /// numbered from 1, and the stated ones fail: a `send` then sends the first half of its bytes. A `send` also
@@ -14,6 +16,7 @@ pub struct MemoryLink {
     given: usize,
     piece: usize,
     sent: Vec<u8>,
+    trace: Trace,
     made: u64,
     failing: Vec<u64>,
     faults: u64,
@@ -25,23 +28,31 @@ pub struct MemoryLink {
 impl Model for MemoryLink {
     ghost use Rattle.std.specs.Prelude.{drop};
     ghost use Rattle.tf_ports.specs.MemoryLink.{HeldByLink};
+    ghost use Rattle.tf_ports.specs.Noted.{passed_in};
 
     ghost Value = { HeldByLink };
 
-    ghost view = { λ link. record { left = drop link.given link.bytes.items; sent = link.sent.items; faults = link.faults; ends = link.ends } };
+    ghost view = { λ link. record {
+      left = drop link.given link.bytes.items;
+      sent = link.sent.items;
+      transcript = passed_in link.trace.calls;
+      faults = link.faults;
+      ends = link.ends;
+    } };
 }
 
 impl MemoryLink {
     /// A link that gives these bytes and then its end, and was sent nothing so far.
     pub fn make(alloc: Global, bytes: Vec<u8>, piece: usize, failing: Vec<u64>) -> MemoryLink
         requires piece { 0 < piece }
-        ensures { result ≡ record { left = bytes.items; sent = []; faults = 0; ends = 0 } }
+        ensures { result ≡ record { left = bytes.items; sent = []; transcript = []; faults = 0; ends = 0 } }
     {
         MemoryLink {
             bytes,
             given: 0,
             piece,
             sent: Vec::new(alloc),
+            trace: Trace::new(),
             made: 0,
             failing,
             faults: 0,
@@ -75,7 +86,10 @@ impl MemoryLink {
 
     /// Keeps bytes that were sent, or counts a fault where memory runs out.
     fn keep(&mut self, bytes: &[u8]) -> Result<(), LinkFault>
-        ensures kept { OnOk result (self.new ≡ record self.old { sent = self.old.sent ++ bytes.now }) }
+        ensures kept { OnOk result (self.new ≡ record self.old {
+            sent = self.old.sent ++ bytes.now;
+            transcript = sent_with self.old.transcript bytes.now;
+        }) }
         ensures same { OnErr result (self.new ≡ record self.old { faults = self.new.faults }) }
         ensures rose { OnErr result (Rises self.old.faults self.new.faults) }
         ensures no_fall { self.old.faults ≤ self.new.faults }
@@ -84,6 +98,7 @@ impl MemoryLink {
             self.fault();
             return Err(LinkFault);
         }
+        self.trace.said(bytes);
         Ok(())
     }
 }
@@ -91,7 +106,7 @@ impl MemoryLink {
 impl Link for MemoryLink {
     ghost left = { λ link. Some link.left };
 
-    ghost sent = { λ link. Some link.sent };
+    ghost transcript = { λ link. link.transcript };
 
     ghost faults = { λ link. link.faults };
 
@@ -118,6 +133,7 @@ impl Link for MemoryLink {
         }
         let count = copy_prefix(rest, buf, self.piece);
         self.given += count;
+        self.trace.gave(0, &buf[..count]);
         Came::Bytes(count)
     }
 

@@ -1,7 +1,6 @@
 ghost use Rattle.std.specs.Prelude.{◌≡◌, ◌<◌, [], length, None, Some};
-ghost use Rattle.tf_desk.specs.FileDesk.{said_in, SaysSome};
-ghost use Rattle.tf_ports.specs.Noted.{door_told, noted, seen_by};
-ghost use Rattle.tf_ports.specs.Sockets.{ReadsSome};
+ghost use Rattle.tf_ports.specs.Noted.{door_told, noted, passed_in, seen_by};
+ghost use Rattle.tf_ports.specs.Sockets.{ReadsSome, SendsSome};
 
 use crate::crews::{Address, PortFault};
 use crate::dialers::Dialer;
@@ -25,7 +24,7 @@ enum Stream {
 }
 
 /// A real link, over a socket. Where it fails the system's reason is said on standard error, behind the address at
-/// which it was made. It notes what it sends, and tells it; of what comes it tells nothing.
+/// which it was made. It notes what it sends and what comes, and tells what passed; of what it has left it tells nothing.
 #[derive(Drop)]
 pub struct SocketLink<R> {
     runtime: R,
@@ -56,7 +55,7 @@ impl<R> SocketLink<R> {
 impl<R: Eprint + Drop> Link for SocketLink<R> {
     ghost left = { λ _. None };
 
-    ghost sent = { λ link. Some (said_in link.trace.calls) };
+    ghost transcript = { λ link. passed_in link.trace.calls };
 
     ghost faults = { λ link. link.faults };
 
@@ -81,7 +80,10 @@ impl<R: Eprint + Drop> Link for SocketLink<R> {
             Stream::Tcp(stream) => get(&self.runtime, &self.address, stream, buf),
         };
         match came {
-            Came::Bytes(count) => Came::Bytes(count),
+            Came::Bytes(count) => {
+                self.trace.gave(0, &buf[..count]);
+                Came::Bytes(count)
+            }
             Came::End => {
                 self.ends = self.ends.saturating_add(1);
                 Came::End
@@ -105,7 +107,8 @@ impl<R: Eprint + Drop> Link for SocketLink<R> {
 /// Sends the bytes over the stream, in as many writes as it takes; an interrupted one is tried again. `Err`: a write failed
 /// or took nothing, and a prefix of the bytes was sent.
 fn send_whole<S: Write>(stream: &mut S, trace: &mut Trace, bytes: &[u8]) -> io::Result<()>
-    ensures { SaysSome bytes.now result (said_in trace.old.calls) (said_in trace.new.calls) }
+    ensures { SendsSome bytes.now result (S.contents stream.old) (S.contents stream.new)
+        (passed_in trace.old.calls) (passed_in trace.new.calls) }
 {
     let mut done = 0;
     for _ in 0..u64::MAX {
