@@ -13,8 +13,8 @@ use Rattle.tf_wire.proofs.StreamLemmas.{bad_stays, cut_on, short_is_no_frame, sh
 use Rattle.tf_sessions.specs.Receiving.{IsKnown, BringsPiece, IsStill, IsAtEnd, TakesIn, HasNothingMore}
 use Rattle.tf_sessions.specs.Talks.{all_said, AllAnswered, AnswersFirst, Says, SaysPart, Stands, Talk, TalkEndsAs, BeginsWithFrameSo}
 use Rattle.tf_sessions.specs.declared.incoming.Incoming.{Incoming}
-use Rattle.tf_sessions.specs.declared.incoming.Over.{Over}
-use Rattle.tf_sessions.specs.declared.incoming.Over.TheVariants as over
+use Rattle.tf_sessions.specs.declared.incoming.ServeEnd.{ServeEnd}
+use Rattle.tf_sessions.specs.declared.incoming.ServeEnd.TheVariants as end
 use Rattle.tf_sessions.proofs.FrameLemmas.{behind_of, cut_of, cut_rest, cut_bad, known_taken, place_more, Taking, Next, next_of}
 
 -- ---- counts
@@ -202,25 +202,25 @@ module _ (before now after : SeenLink) (frames replies : List (List ℕ)) where
       (first_later frames replies frame reply on.passed on.as_many on.answers_first) (sym (append-nil (all_said (replies ++ reply ∷ [])) ∙ said_more replies reply)) part
 
   -- a talk, and how it ended
-  pub record EndedTalk (is_none : List ℕ → Type 0) (how : Over) : Type 0 where
+  pub record EndedTalk (is_none : List ℕ → Type 0) (how : ServeEnd) : Type 0 where
     pub talk : Talk before after frames replies []
     pub ends_as : TalkEndsAs is_none how talk
 
 module _ (before now after : SeenLink) (frames replies : List (List ℕ)) (is_none : List ℕ → Type 0) where
   -- nothing more is taken in
-  pub is_over : (incoming : Incoming) (how : Over) → incoming.frames.waiting ≡ [] → HasNothingMore incoming now after how → Stands before now frames replies incoming → EndedTalk before now after frames replies is_none how
-  is_over incoming over.Ended empty why on =
+  pub is_over : (incoming : Incoming) (how : ServeEnd) → incoming.frames.waiting ≡ [] → HasNothingMore incoming now after how → Stands before now frames replies incoming → EndedTalk before now after frames replies is_none how
+  is_over incoming end.Ended empty why on =
       let known : IsKnown incoming.frames None = subst (IsKnown incoming.frames) why.1 on.is_known in
       let still = stands_still before now after frames replies incoming why.0.still on in record {
         talk = talk_of before after after frames replies incoming incoming.frames.rest still (cut_rest incoming.frames (received_in on.passed) frames empty known.1 on.keeps);
         ends_as = (on.sent, why.2, record { rose = rises_on before.ends now.ends after.ends on.ends why.0.rose; nothing_left = why.0.nothing_left });
       }
-  is_over incoming over.Lost empty (inl failed) on =
+  is_over incoming end.Lost empty (inl failed) on =
       let still = stands_still before now after frames replies incoming failed.0 on in record {
         talk = talk_of before after after frames replies incoming (behind_of incoming.frames (received_in on.passed) frames on.keeps) still (cut_of incoming.frames (received_in on.passed) frames on.keeps);
         ends_as = inl (rises_on before.faults now.faults after.faults on.faults failed.1);
       }
-  is_over incoming over.Lost empty (inr ended) on =
+  is_over incoming end.Lost empty (inr ended) on =
       let known : IsKnown incoming.frames None = subst (IsKnown incoming.frames) ended.1 on.is_known in
       let still = stands_still before now after frames replies incoming ended.0.still on in record {
         talk = talk_of before after after frames replies incoming incoming.frames.rest still (cut_rest incoming.frames (received_in on.passed) frames empty known.1 on.keeps);
@@ -230,7 +230,7 @@ module _ (before now after : SeenLink) (frames replies : List (List ℕ)) (is_no
           record { rose = rises_on before.ends now.ends after.ends on.ends ended.0.rose; nothing_left = ended.0.nothing_left },
         );
       }
-  is_over incoming (over.Bad at) empty why on =
+  is_over incoming (end.Bad at) empty why on =
       let known : IsKnown incoming.frames (Some at) = subst (IsKnown incoming.frames) why.1 on.is_known in
       let still = stands_still before now after frames replies incoming why.0 on in record {
         talk = talk_of before after after frames replies incoming (incoming.frames.rest ++ on.keeps.dropped) still (cut_bad incoming.frames (received_in on.passed) frames empty on.keeps);
@@ -240,7 +240,7 @@ module _ (before now after : SeenLink) (frames replies : List (List ℕ)) (is_no
           inr (bad_stays incoming.frames.rest on.keeps.dropped known.0),
         );
       }
-  is_over incoming over.Memory empty out on = record {
+  is_over incoming end.Memory empty out on = record {
     talk = record {
       passed = received_with on.passed out.piece;
       went = out.brings.passed ∙ ap (λ (t : List Passed). received_with t out.piece) on.went ∙ append_assoc before.transcript on.passed (received out.piece ∷ []);
@@ -260,7 +260,7 @@ module _ (before now after : SeenLink) (frames replies : List (List ℕ)) (is_no
   }
 
   -- a frame was taken that is no request
-  pub over_none : (old new : Incoming) (frame : List ℕ) → Taking old.frames new.frames frame → is_none frame → IsStill now after → Stands before now frames replies old → EndedTalk before now after frames replies is_none (over.Bad old.place)
+  pub over_none : (old new : Incoming) (frame : List ℕ) → Taking old.frames new.frames frame → is_none frame → IsStill now after → Stands before now frames replies old → EndedTalk before now after frames replies is_none (end.Bad old.place)
   over_none old new frame taking none still on =
       let next = next_of old.frames new.frames frame (received_in on.passed) frames taking.is on.keeps in
       let stands = stands_still before now after frames replies old still on in record {

@@ -5,8 +5,8 @@ use Rattle.tf_ports.specs.Ports.{SeenLink, left_before, IsNothingLeft}
 use Rattle.tf_ports.specs.Transcript.{received_with}
 use Rattle.tf_wire.specs.Stream.{KeptFrames, KeepsStream, BeginsWithFrame, BeginsWithBadLength}
 use Rattle.tf_sessions.specs.declared.incoming.Incoming.{Incoming}
-use Rattle.tf_sessions.specs.declared.incoming.Over.{Over}
-use Rattle.tf_sessions.specs.declared.incoming.Over.TheVariants as over
+use Rattle.tf_sessions.specs.declared.incoming.ServeEnd.{ServeEnd}
+use Rattle.tf_sessions.specs.declared.incoming.ServeEnd.TheVariants as end
 
 -- what stands behind the frames is refused at this place, or isn't refused so far
 abbrev pub IsKnown : KeptFrames → Option ℕ → Type 0
@@ -55,11 +55,11 @@ pub record RunsOut (incoming : Incoming) (before now : SeenLink) : Type 0 where
 
 -- why nothing was taken in: the link is at its end, between two frames or inside one; the link failed; the stream is
 -- refused; or memory ran out
-abbrev pub HasNothingMore : Incoming → SeenLink → SeenLink → Over → Type 0
-HasNothingMore incoming before now over.Ended =
+abbrev pub HasNothingMore : Incoming → SeenLink → SeenLink → ServeEnd → Type 0
+HasNothingMore incoming before now end.Ended =
     IsAtEnd before now × (incoming.refused ≡ None) × (incoming.frames.rest ≡ [])
-HasNothingMore incoming before now over.Lost =
+HasNothingMore incoming before now end.Lost =
     (IsStill before now × Rises before.faults now.faults)
     ⊎ (IsAtEnd before now × (incoming.refused ≡ None) × (incoming.frames.rest ≢ []))
-HasNothingMore incoming before now (over.Bad at) = IsStill before now × (incoming.refused ≡ Some at)
-HasNothingMore incoming before now over.Memory = RunsOut incoming before now
+HasNothingMore incoming before now (end.Bad at) = IsStill before now × (incoming.refused ≡ Some at)
+HasNothingMore incoming before now end.Memory = RunsOut incoming before now

@@ -7,8 +7,8 @@ use Rattle.tf_ports.specs.Transcript.{Passed, sent_with, SendsPrefix, received_i
 use Rattle.tf_wire.specs.Stream.{counted, IsFrame, framed, joined, SplitsInto, KeepsStream, BeginsWithFrame, BeginsWithBadLength}
 use Rattle.tf_sessions.specs.Receiving.{IsKnown}
 use Rattle.tf_sessions.specs.declared.incoming.Incoming.{Incoming}
-use Rattle.tf_sessions.specs.declared.incoming.Over.{Over}
-use Rattle.tf_sessions.specs.declared.incoming.Over.TheVariants as over
+use Rattle.tf_sessions.specs.declared.incoming.ServeEnd.{ServeEnd}
+use Rattle.tf_sessions.specs.declared.incoming.ServeEnd.TheVariants as end
 
 -- replies, one behind the other
 abbrev pub all_said : List (List ℕ) → List ℕ
@@ -103,13 +103,13 @@ pub record BeginsWithFrameSo (P : List ℕ → Type 0) (bytes : List ℕ) : Type
 
 -- How a session ends. Ended: the link ended between two frames. Lost: the link failed, or it ended inside a frame. Bad:
 -- at this place stands a frame that is no request, or a length that no frame has. Of Memory nothing is said.
-abbrev pub TalkEndsAs : (List ℕ → Type 0) → Over → {before now : SeenLink} {frames replies : List (List ℕ)}
+abbrev pub TalkEndsAs : (List ℕ → Type 0) → ServeEnd → {before now : SeenLink} {frames replies : List (List ℕ)}
     {begun : List ℕ} → Talk before now frames replies begun → Type 0
-TalkEndsAs is_none over.Ended {before = before} {now = now} talk =
+TalkEndsAs is_none end.Ended {before = before} {now = now} talk =
     IsWholeTalk talk × (talk.behind ≡ []) × IsLinkOver before now
-TalkEndsAs is_none over.Lost {before = before} {now = now} talk =
+TalkEndsAs is_none end.Lost {before = before} {now = now} talk =
     Rises before.faults now.faults ⊎ (IsWholeTalk talk × IsCutShort talk.behind × IsLinkOver before now)
-TalkEndsAs is_none (over.Bad at) {frames = frames} talk =
+TalkEndsAs is_none (end.Bad at) {frames = frames} talk =
     IsWholeTalk talk × (at ≡ counted (length (joined frames)))
     × (BeginsWithFrameSo is_none talk.behind ⊎ BeginsWithBadLength talk.behind)
-TalkEndsAs is_none over.Memory talk = Unit {0}
+TalkEndsAs is_none end.Memory talk = Unit {0}

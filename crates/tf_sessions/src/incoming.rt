@@ -12,7 +12,7 @@ const PIECE: usize = 8192;
 
 /// Why nothing more is taken in.
 #[derive(Clone, Copy, Debug, PartialEq, Eq)]
-pub enum Over {
+pub enum ServeEnd {
     /// The link ended between two frames.
     Ended,
     /// The link failed, or it ended inside a frame.
@@ -48,7 +48,7 @@ impl Incoming {
     }
 
     /// Takes in what comes next over the link.
-    pub fn receive<L: Link>(&mut self, alloc: Global, link: &mut L) -> Result<(), Over>
+    pub fn receive<L: Link>(&mut self, alloc: Global, link: &mut L) -> Result<(), ServeEnd>
         ensures { MatchResult result
             (λ _. TakesIn self.old self.new (seen_link L.left L.transcript L.faults L.ends link.old)
             (seen_link L.left L.transcript L.faults L.ends link.new))
@@ -56,18 +56,18 @@ impl Incoming {
             (seen_link L.left L.transcript L.faults L.ends link.new)) }
     {
         if let Some(at) = self.refused {
-            return Err(Over::Bad { at });
+            return Err(ServeEnd::Bad { at });
         }
         let mut piece = [0; PIECE];
         match link.recv(&mut piece) {
             Came::Bytes(count) => self.feed(alloc, &piece[..count]),
             Came::End => {
                 if self.frames.is_between() {
-                    return Err(Over::Ended);
+                    return Err(ServeEnd::Ended);
                 }
-                Err(Over::Lost)
+                Err(ServeEnd::Lost)
             }
-            Came::Failed => Err(Over::Lost),
+            Came::Failed => Err(ServeEnd::Lost),
         }
     }
 
@@ -81,10 +81,10 @@ impl Incoming {
     }
 
     /// Takes in a piece of the stream.
-    fn feed(&mut self, alloc: Global, piece: &[u8]) -> Result<(), Over>
+    fn feed(&mut self, alloc: Global, piece: &[u8]) -> Result<(), ServeEnd>
         requires { self.old.refused ≡ None }
         ensures fed { OnOk result (Feeds self.old.frames self.new.frames piece.now self.new.refused) }
-        ensures memory { OnErr result (IsErrOf result Over.Memory) }
+        ensures memory { OnErr result (IsErrOf result ServeEnd.Memory) }
         ensures place { self.new.place ≡ self.old.place }
     {
         match self.frames.feed(alloc, piece) {
@@ -93,7 +93,7 @@ impl Incoming {
                 self.refused = Some(at);
                 Ok(())
             }
-            Err(WireFault::Memory) => Err(Over::Memory),
+            Err(WireFault::Memory) => Err(ServeEnd::Memory),
         }
     }
 }

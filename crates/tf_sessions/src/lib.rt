@@ -3,4 +3,4 @@
 
 mod incoming;
 
-pub use incoming::{Incoming, Over};
+pub use incoming::{Incoming, ServeEnd};

@@ -1,19 +1,20 @@
--- What a worker answers: one exchange for each request. A session: what a link gave, what was read and answered of it,
--- and how it ended.
-use Rattle.std.specs.Prelude.{ℕ, List, [], ◌∷◌, ◌++◌, ◌≡◌, ◌≢◌, ◌≤◌, map, length, Option, Some, None, option_map, ◌⊎◌}
-use Rattle.std.specs.List.{flat_map, AllByRecursion}
+-- What a worker answers: one exchange for each request. A session: what was read and answered of what a link gave, and
+-- how it ended.
+use Rattle.std.specs.Prelude.{ℕ, List, [], ◌∷◌, ◌++◌, ◌≡◌, ◌≤◌, map, length, Option, Some, None, option_map, ◌⊎◌}
+use Rattle.std.specs.List.{AllByRecursion}
 use Rattle.tf_actions.specs.declared.orders.Order.{Order}
 use Rattle.tf_actions.specs.declared.outcomes.Outcome.{Outcome}
 use Rattle.tf_wire.specs.Grammar.{response_data, frame_of, order_of, AreRequest}
 use Rattle.tf_wire.specs.declared.messages.Request.{Request}
 use Rattle.tf_wire.specs.declared.messages.Response.{Response}
 use Rattle.tf_numbers.specs.Numbers.{Rises}
-use Rattle.tf_ports.specs.Ports.{sent_with, left_before, SendsPrefix, IsNothingLeft}
-use Rattle.tf_wire.specs.Stream.{counted, IsFrame, framed, joined, SplitsInto, BeginsWithFrame, BeginsWithBadLength}
-use Rattle.tf_workers.specs.declared.serving.ServeEnd.{ServeEnd}
+use Rattle.tf_ports.specs.Ports.{SeenLink, seen_link}
+use Rattle.tf_ports.specs.Transcript.{Passed}
+use Rattle.tf_sessions.specs.Talks.{Talk, TalkEndsAs, BeginsWithFrameSo}
+use Rattle.tf_sessions.specs.declared.incoming.ServeEnd.{ServeEnd}
 use Rattle.tf_actions.specs.declared.outcomes.Outcome.TheVariants as outcome
 use Rattle.tf_wire.specs.declared.messages.Response.TheVariants as response
-use Rattle.tf_workers.specs.declared.serving.ServeEnd.TheVariants as end
+use Rattle.tf_sessions.specs.declared.incoming.ServeEnd.TheVariants as end
 
 -- a request, and the outcome of the order that it names
 pub record Exchange : Type 0 where
@@ -42,8 +43,8 @@ abbrev pub reply : Exchange → List ℕ
 reply exchange = running exchange.request ++ spoken (told exchange.request.id exchange.outcome)
 
 -- the replies in order
-abbrev pub dialogue : List Exchange → List ℕ
-dialogue exchanges = flat_map reply exchanges
+abbrev pub replies : List Exchange → List (List ℕ)
+replies exchanges = map reply exchanges
 
 -- the replies in order, the last one without its outcome: what is sent before the hand is asked for the last order
 abbrev pub up_to_running : List Exchange → List ℕ
@@ -51,19 +52,15 @@ up_to_running [] = []
 up_to_running (last ∷ []) = running last.request
 up_to_running (first ∷ (next ∷ others)) = reply first ++ up_to_running (next ∷ others)
 
--- what is seen of a link and a hand: the bytes that the link has left and those that it was sent, its counts of
--- faults and ends, and the hand's orders; None where one isn't told
+-- what is seen of a link and a hand: what the link tells, and the hand's orders, None where it doesn't tell them
 pub record Seen : Type 0 where
-  pub left : Option (List ℕ)
-  pub sent : Option (List ℕ)
-  pub faults : ℕ
-  pub ends : ℕ
+  pub link : SeenLink
   pub did : Option (List Order)
 
-abbrev pub seen : {L P : Type 0} → (L → Option (List ℕ)) → (L → Option (List ℕ)) → (L → ℕ) → (L → ℕ)
+abbrev pub seen : {L P : Type 0} → (L → Option (List ℕ)) → (L → List Passed) → (L → ℕ) → (L → ℕ)
     → (P → Option (List Order)) → L → P → Seen
-seen left sent faults ends did link hand =
-    record { left = left link; sent = sent link; faults = faults link; ends = ends link; did = did hand }
+seen left transcript faults ends did link hand =
+    record { link = seen_link left transcript faults ends link; did = did hand }
 
 -- more orders at the end; None, which tells nothing, stays None
 abbrev pub did_with : Option (List Order) → List Order → Option (List Order)
@@ -80,26 +77,14 @@ AreRead (frame ∷ frames) (exchange ∷ exchanges) = AreRequest frame exchange.
 abbrev pub MayBeGiven : (Order → Outcome → Type 0) → Exchange → Type 0
 MayBeGiven gives exchange = gives (order_asked exchange) exchange.outcome
 
--- a whole frame that spells this request stands at the front
-pub record BeginsWithRequest (bytes : List ℕ) (request : Request) : Type 0 where
-  pub frame : List ℕ
-  pub behind : List ℕ
-  pub is_frame : IsFrame frame
-  pub prefix : bytes ≡ framed frame ++ behind
-  pub spells : AreRequest frame request
-
--- a whole frame that spells no request stands at the front
-pub record BeginsWithNoRequest (bytes : List ℕ) : Type 0 where
-  pub frame : List ℕ
-  pub behind : List ℕ
-  pub is_frame : IsFrame frame
-  pub prefix : bytes ≡ framed frame ++ behind
-  pub spells_none : (request : Request) → ¬ (AreRequest frame request)
+-- the frame spells no request
+abbrev pub SpellsNone : List ℕ → Type 0
+SpellsNone frame = (request : Request) → ¬ (AreRequest frame request)
 
 -- the request at the front was begun, or none was
 abbrev pub IsBegun : List ℕ → Option Request → Type 0
 IsBegun bytes None = Unit {0}
-IsBegun bytes (Some request) = BeginsWithRequest bytes request
+IsBegun bytes (Some request) = BeginsWithFrameSo (λ frame. AreRequest frame request) bytes
 
 -- what is said to a request that was begun
 abbrev pub begun_reply : Option Request → List ℕ
@@ -108,57 +93,28 @@ begun_reply (Some request) = running request
 
 -- The link gave some bytes. Of the frames at their front some were read as requests, and the hand was asked for the
 -- orders that these name, each once and in order. At most one request behind them was read besides, to which no outcome
--- came. The link was sent a prefix of the dialogue: whole up to where it says that the last order of which the hand was
--- asked runs.
+-- came. The link was sent a prefix of the replies, each before more came: whole up to where it says that the last order
+-- of which the hand was asked runs.
 pub record WorkerSession (gives : Order → Outcome → Type 0) (before now : Seen) : Type 0 where
-  pub given : List ℕ
-  pub came : before.left ≡ left_before given now.left
   pub frames : List (List ℕ)
-  pub behind : List ℕ
-  pub cut : SplitsInto given frames behind
   pub exchanges : List Exchange
   pub read : AreRead frames exchanges
   pub gave : AllByRecursion (MayBeGiven gives) exchanges
   pub did : now.did ≡ did_with before.did (map order_asked exchanges)
   pub begun : Option Request
-  pub is_begun : IsBegun behind begun
-  pub sent : SendsPrefix before.sent (dialogue exchanges ++ begun_reply begun) now.sent
-  pub said_running : length (up_to_running exchanges) ≤ sent.count
+  pub talk : Talk before.link now.link frames (replies exchanges) (begun_reply begun)
+  pub is_begun : IsBegun talk.behind begun
+  pub said_running : length (up_to_running exchanges) ≤ talk.count
 
--- no request was begun without an outcome, and the whole dialogue was sent
-pub record IsFullyAnswered {gives : Order → Outcome → Type 0} {before now : Seen}
-    (session : WorkerSession gives before now) : Type 0 where
-  pub none_begun : session.begun ≡ None
-  pub sent : now.sent ≡ sent_with before.sent (dialogue session.exchanges)
-
--- the link ended inside a frame: some bytes stand behind the frames that are no whole frame, and might become one
-pub record IsCutShort (behind : List ℕ) : Type 0 where
-  pub some : behind ≢ []
-  pub no_frame : ¬ (BeginsWithFrame behind)
-  pub not_bad : ¬ (BeginsWithBadLength behind)
-
--- the link ended
-pub record IsLinkOver (before now : Seen) : Type 0 where
-  pub rose : Rises before.ends now.ends
-  pub nothing_left : IsNothingLeft now.left
-
--- How a session ends. Ended: the link ended between two frames. Lost: the link failed, or it ended inside a
--- frame. Bad: at this place stands a frame that spells no request, or a length that no frame has. Of Memory
--- nothing is said.
-abbrev pub SessionEndsAs : {gives : Order → Outcome → Type 0} {before now : Seen} → ServeEnd
-    → WorkerSession gives before now → Type 0
-SessionEndsAs {gives} {before} {now} end.Ended session =
-    IsFullyAnswered session × (session.behind ≡ []) × IsLinkOver before now
-SessionEndsAs {gives} {before} {now} end.Lost session =
-    Rises before.faults now.faults ⊎ (IsFullyAnswered session × IsCutShort session.behind × IsLinkOver before now)
-SessionEndsAs {gives} {before} {now} (end.Bad at) session =
-    IsFullyAnswered session × (at ≡ counted (length (joined session.frames)))
-    × (BeginsWithNoRequest session.behind ⊎ BeginsWithBadLength session.behind)
-SessionEndsAs {gives} {before} {now} end.Memory session = Unit {0}
+-- every request that was read was answered, unless the link failed or memory ran out
+abbrev pub IsAnsweredAt : ServeEnd → (failed : Type 0) → Option Request → Type 0
+IsAnsweredAt end.Ended failed begun = begun ≡ None
+IsAnsweredAt end.Lost failed begun = failed ⊎ (begun ≡ None)
+IsAnsweredAt (end.Bad at) failed begun = begun ≡ None
+IsAnsweredAt end.Memory failed begun = Unit {0}
 
 -- what serving a link promises; no count falls
 pub record Serves (gives : Order → Outcome → Type 0) (before now : Seen) (how : ServeEnd) : Type 0 where
   pub session : WorkerSession gives before now
-  pub ends_as : SessionEndsAs how session
-  pub faults : before.faults ≤ now.faults
-  pub ends : before.ends ≤ now.ends
+  pub ends_as : TalkEndsAs SpellsNone how session.talk
+  pub answered : IsAnsweredAt how (Rises before.link.faults now.link.faults) session.begun

@@ -1,6 +1,7 @@
-ghost use Rattle.std.specs.Prelude.{◌≡◌, ◌≢◌, ◌≤◌, Err, OnOk, OnErr, IfErr, IsErrOf};
+ghost use Rattle.std.specs.Prelude.{◌≡◌, ◌≢◌, Err, OnOk, OnErr, IfErr, IsErrOf};
 ghost use Rattle.tf_numbers.specs.Numbers.{Rises};
-ghost use Rattle.tf_ports.specs.Ports.{sent_with, SendsPrefix};
+ghost use Rattle.tf_ports.specs.Ports.{seen_link};
+ghost use Rattle.tf_sessions.specs.Talks.{Says, SaysPart};
 ghost use Rattle.tf_workers.specs.Session.{spoken, told as told_by, seen};
 ghost use Rattle.tf_workers.specs.Progress.{Answers, StopsFor};
 
@@ -29,11 +30,11 @@ pub fn answer<L: Link, P: Performer>(
     hand: &mut P,
 ) -> Result<(), Stop>
     ensures answered { OnOk result (Answers P.gives frame.now
-        (seen L.left L.sent L.faults L.ends P.did link.old hand.old)
-        (seen L.left L.sent L.faults L.ends P.did link.new hand.new)) }
+        (seen L.left L.transcript L.faults L.ends P.did link.old hand.old)
+        (seen L.left L.transcript L.faults L.ends P.did link.new hand.new)) }
     ensures stopped { IfErr result (StopsFor P.gives frame.now
-        (seen L.left L.sent L.faults L.ends P.did link.old hand.old)
-        (seen L.left L.sent L.faults L.ends P.did link.new hand.new)) }
+        (seen L.left L.transcript L.faults L.ends P.did link.old hand.old)
+        (seen L.left L.transcript L.faults L.ends P.did link.new hand.new)) }
 {
     let request = match read_request(alloc, frame) {
         Ok(request) => request,
@@ -68,12 +69,12 @@ fn told(id: u64, outcome: Outcome) -> Response
 
 /// Sends a response as its frame.
 fn say<L: Link>(alloc: Global, response: &Response, link: &mut L) -> Result<(), Stop>
-    ensures said { OnOk result (L.sent link.new ≡ sent_with (L.sent link.old) (spoken response.now)) }
-    ensures cut { OnErr result (SendsPrefix (L.sent link.old) (spoken response.now) (L.sent link.new)) }
+    ensures said { OnOk result (Says (spoken response.now) (seen_link L.left L.transcript L.faults L.ends link.old)
+        (seen_link L.left L.transcript L.faults L.ends link.new)) }
+    ensures cut { OnErr result (SaysPart (spoken response.now) (seen_link L.left L.transcript L.faults L.ends link.old)
+        (seen_link L.left L.transcript L.faults L.ends link.new)) }
     ensures lost { IsErrOf result Stop.Lost → Rises (L.faults link.old) (L.faults link.new) }
     ensures not_bad { result ≢ Err Stop.Bad }
-    ensures left { L.left link.new ≡ L.left link.old }
-    ensures no_fall { (L.faults link.old ≤ L.faults link.new) × (L.ends link.old ≤ L.ends link.new) }
 {
     let mut frame = Vec::new(alloc);
     let Ok(()) = print_response(alloc, response, &mut frame) else {

@@ -2,7 +2,7 @@
 #![tactic(auto)]
 
 mod answering;
-mod incoming;
 mod serving;
 
-pub use serving::{ServeEnd, serve};
+pub use serving::serve;
+pub use tf_sessions::ServeEnd;
