@@ -87,8 +87,8 @@ impl MemoryLink {
     /// Keeps bytes that were sent, or counts a fault where memory runs out.
     fn keep(&mut self, bytes: &[u8]) -> Result<(), LinkFault>
         ensures kept { OnOk result (self.new ≡ record self.old {
-            sent = self.old.sent ++ bytes.now;
-            transcript = sent_with self.old.transcript bytes.now;
+          sent = self.old.sent ++ bytes.now;
+          transcript = sent_with self.old.transcript bytes.now;
         }) }
         ensures same { OnErr result (self.new ≡ record self.old { faults = self.new.faults }) }
         ensures rose { OnErr result (Rises self.old.faults self.new.faults) }

@@ -37,8 +37,8 @@ loop-preserved g c =
           record {
             within = omega (arith, w.done-is, within);
             taken = subst (Appends (contents c.args.stream.now) (contents c.write.new.self)) (
-            ap (λ (rest : List ℕ). take done bytes ++ take n rest) all ∙ sym (take-add done n bytes) ∙ ap (λ (k : ℕ). take k bytes) (sym w.done-is)
-            ) (appends_on (contents c.args.stream.now) (contents c.loop.stream) (contents c.write.new.self) (take done bytes) (take n (take (length bytes - done) (drop done bytes))) inv.taken w.in-Ok.ensures.bytes);
+                ap (λ (rest : List ℕ). take done bytes ++ take n rest) all ∙ sym (take-add done n bytes) ∙ ap (λ (k : ℕ). take k bytes) (sym w.done-is)
+                ) (appends_on (contents c.args.stream.now) (contents c.loop.stream) (contents c.write.new.self) (take done bytes) (take n (take (length bytes - done) (drop done bytes))) inv.taken w.in-Ok.ensures.bytes);
             passed =
                 ap (λ t. passed_in t.calls) w.trace-is
                 ∙ sent_more (passed_in c.args.trace.now.calls) (passed_in c.loop.trace.calls) (passed_in w.said.new.self.calls) (take done bytes) part inv.passed (ap (λ (calls : List Call). passed_in calls) w.said.ensures)
