@@ -119,7 +119,7 @@ module _ (before now after : SeenLink) (frames replies : List (List ℕ)) where
       }
 
   -- nothing passed
-  pub stands_still : (incoming : Incoming) → IsStill now after → Stands before now frames replies incoming → Stands before after frames replies incoming
+  abbrev pub stands_still : (incoming : Incoming) → IsStill now after → Stands before now frames replies incoming → Stands before after frames replies incoming
   stands_still incoming still on = record {
     passed = on.passed;
     went = still.passed ∙ on.went;
@@ -189,13 +189,13 @@ module _ (before now after : SeenLink) (frames replies : List (List ℕ)) where
       }
 
   -- a frame was taken whose reply was begun
-  pub talk_begun : (old new : Incoming) (frame begun : List ℕ) (taking : Taking old.frames new.frames frame) (on : Stands before now frames replies old) → SaysPart begun now after → Talk before after frames replies begun
+  abbrev pub talk_begun : (old new : Incoming) (frame begun : List ℕ) (taking : Taking old.frames new.frames frame) (on : Stands before now frames replies old) → SaysPart begun now after → Talk before after frames replies begun
   talk_begun old new frame begun taking on part =
       let next = next_of old.frames new.frames frame (received_in on.passed) frames taking.is on.keeps in
       talk_part old frames replies begun begun (framed frame ++ next.behind) on next.cut on.answers_first refl part
 
   -- a frame was taken, and a part of its reply was sent
-  pub talk_replied : (old new : Incoming) (frame reply : List ℕ) (taking : Taking old.frames new.frames frame) (on : Stands before now frames replies old) → SaysPart reply now after → Talk before after (frames ++ frame ∷ []) (replies ++ reply ∷ []) []
+  abbrev pub talk_replied : (old new : Incoming) (frame reply : List ℕ) (taking : Taking old.frames new.frames frame) (on : Stands before now frames replies old) → SaysPart reply now after → Talk before after (frames ++ frame ∷ []) (replies ++ reply ∷ []) []
   talk_replied old new frame reply taking on part =
       let keeps = taking.keeps (received_in on.passed) frames on.keeps in
       talk_part old (frames ++ frame ∷ []) (replies ++ reply ∷ []) [] reply (behind_of new.frames (received_in on.passed) (frames ++ frame ∷ []) keeps) on (cut_of new.frames (received_in on.passed) (frames ++ frame ∷ []) keeps)
@@ -204,6 +204,7 @@ module _ (before now after : SeenLink) (frames replies : List (List ℕ)) where
   -- a talk, and how it ended
   pub record EndedTalk (is_none : List ℕ → Type 0) (how : ServeEnd) : Type 0 where
     pub talk : Talk before after frames replies []
+    pub counts : length (all_said replies) ≤ talk.count
     pub ends_as : TalkEndsAs is_none how talk
 
 module _ (before now after : SeenLink) (frames replies : List (List ℕ)) (is_none : List ℕ → Type 0) where
@@ -213,17 +214,20 @@ module _ (before now after : SeenLink) (frames replies : List (List ℕ)) (is_no
       let known : IsKnown incoming.frames None = subst (IsKnown incoming.frames) why.1 on.is_known in
       let still = stands_still before now after frames replies incoming why.0.still on in record {
         talk = talk_of before after after frames replies incoming incoming.frames.rest still (cut_rest incoming.frames (received_in on.passed) frames empty known.1 on.keeps);
+        counts = omega arith;
         ends_as = (on.sent, why.2, record { rose = rises_on before.ends now.ends after.ends on.ends why.0.rose; nothing_left = why.0.nothing_left });
       }
   is_over incoming end.Lost empty (inl failed) on =
       let still = stands_still before now after frames replies incoming failed.0 on in record {
         talk = talk_of before after after frames replies incoming (behind_of incoming.frames (received_in on.passed) frames on.keeps) still (cut_of incoming.frames (received_in on.passed) frames on.keeps);
+        counts = omega arith;
         ends_as = inl (rises_on before.faults now.faults after.faults on.faults failed.1);
       }
   is_over incoming end.Lost empty (inr ended) on =
       let known : IsKnown incoming.frames None = subst (IsKnown incoming.frames) ended.1 on.is_known in
       let still = stands_still before now after frames replies incoming ended.0.still on in record {
         talk = talk_of before after after frames replies incoming incoming.frames.rest still (cut_rest incoming.frames (received_in on.passed) frames empty known.1 on.keeps);
+        counts = omega arith;
         ends_as = inr (
           on.sent,
           record { some = ended.2; no_frame = known.0; not_bad = known.1 },
@@ -234,6 +238,7 @@ module _ (before now after : SeenLink) (frames replies : List (List ℕ)) (is_no
       let known : IsKnown incoming.frames (Some at) = subst (IsKnown incoming.frames) why.1 on.is_known in
       let still = stands_still before now after frames replies incoming why.0 on in record {
         talk = talk_of before after after frames replies incoming (incoming.frames.rest ++ on.keeps.dropped) still (cut_bad incoming.frames (received_in on.passed) frames empty on.keeps);
+        counts = omega arith;
         ends_as = (
           on.sent,
           known.1 ∙ on.keeps.is_place ∙ ap (λ (waiting : List (List ℕ)). counted (length (joined (frames ++ waiting)))) empty ∙ ap (λ (some : List (List ℕ)). counted (length (joined some))) (append-nil frames),
@@ -256,6 +261,7 @@ module _ (before now after : SeenLink) (frames replies : List (List ℕ)) (is_no
       faults = le_on before.faults now.faults after.faults on.faults out.brings.faults;
       ends = le_on before.ends now.ends after.ends on.ends out.brings.ends;
     };
+    counts = omega arith;
     ends_as = tt;
   }
 
@@ -265,5 +271,6 @@ module _ (before now after : SeenLink) (frames replies : List (List ℕ)) (is_no
       let next = next_of old.frames new.frames frame (received_in on.passed) frames taking.is on.keeps in
       let stands = stands_still before now after frames replies old still on in record {
         talk = talk_of before after after frames replies old (framed frame ++ next.behind) stands next.cut;
+        counts = omega arith;
         ends_as = (on.sent, on.is_place, inl record { frame = frame; behind = next.behind; is_frame = next.is_frame; prefix = refl; is_so = none });
       }

@@ -1,4 +1,3 @@
 mod AnswerLemmas
 mod ListLemmas
 mod ProgressLemmas
-mod PieceLemmas

@@ -1,5 +1,5 @@
 -- A session while it goes on.
-use Rattle.std.specs.Prelude.{◌≡◌, ℕ, ◌≤◌, List, [], ◌∷◌, ◌++◌, map, length}
+use Rattle.std.specs.Prelude.{◌≡◌, ℕ, ◌≤◌, List, [], ◌∷◌, map, length}
 use Rattle.std.specs.List.{AllByRecursion}
 use Rattle.tf_numbers.specs.Numbers.{Rises}
 use Rattle.tf_actions.specs.declared.orders.Order.{Order}

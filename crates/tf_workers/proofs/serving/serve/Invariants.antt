@@ -4,5 +4,5 @@ use Rattle.tf_workers.proofs.serving.serve.Given as goal
 
 abbrev pub invariant-loop : goal.invariant-loop
 invariant-loop g l =
-    HasAnsweredAll g.P.Performer.gives (seen g.L.Link.left g.L.Link.sent g.L.Link.faults g.L.Link.ends g.P.Performer.did l.fn.link l.fn.hand)
-    (seen g.L.Link.left g.L.Link.sent g.L.Link.faults g.L.Link.ends g.P.Performer.did l.link l.hand) l.incoming.frames l.incoming.place l.incoming.refused
+    HasAnsweredAll g.P.Performer.gives (seen g.L.Link.left g.L.Link.transcript g.L.Link.faults g.L.Link.ends g.P.Performer.did l.fn.link l.fn.hand)
+    (seen g.L.Link.left g.L.Link.transcript g.L.Link.faults g.L.Link.ends g.P.Performer.did l.link l.hand) l.incoming
