@@ -1,14 +1,18 @@
 //! The top call over the real files, folder, crew and door.
 
-ghost use Rattle.std.specs.Prelude.{◌≡◌, ℕ, List, [], Some, IsTrue};
+ghost use Rattle.std.specs.Prelude.{◌≡◌, ◌≤◌, ℕ, List, [], None, Some, IsTrue};
 ghost use Rattle.tf_numbers.specs.Numbers.{Rises};
 ghost use Rattle.tf_actions.specs.Gives.{Gives, GivesFar};
 ghost use Rattle.tf_desk.specs.Calls.{calls_of};
 ghost use Rattle.tf_desk.specs.FileDesk.{said_in};
 ghost use Rattle.tf_desk.specs.Replay.{IsHonest};
 ghost use Rattle.tf_desk.specs.State.{told_as};
-ghost use Rattle.tf_commands.specs.Asking.{WasAsked, IsWork, HasNoFault, counts_of};
+ghost use Rattle.tf_commands.specs.Asking.{WasAsked, IsWork, AsksForWork, HasCausesOr, HasNoFault, counts_of};
 ghost use Rattle.tf_commands.specs.Behaviour.{Behaviour, HiresAsAsked, MayBeDone, IsComplete, ports_told};
+ghost use Rattle.tf_commands.specs.Behaviour.{IsRefused, IsBoardRefused, IsOldBook};
+ghost use Rattle.tf_commands.specs.Messages.{IsLogRefused};
+ghost use Rattle.tf_commands.specs.declared.auditing.TheConstants.{LOG_REFUSED};
+ghost use Rattle.tf_report.specs.declared.statuses.TheConstants.{NO_COMMAND, REFUSED, BOARD_REFUSED, OLD_BOOK};
 ghost use Rattle.tf_ports.specs.Ports.{gives_by};
 ghost use Rattle.tf_words.specs.Words.{command_of};
 ghost use Rattle.tf_words.specs.declared.asked.Asked.{Asked as AnAsked};
@@ -49,7 +53,7 @@ pub(crate) fn begin<W: World>(
 /// desk the text that it wrote to standard output, and its files and what a crash may leave of them, as they follow from
 /// these calls and from what the files held at first, as long as the calls are honest; of the folder the files of the
 /// world, as long as all that was read of it is what they have; of the crew whom it hired, and the orders of the hands
-/// that were given back; of the door where it was opened, and what each of its links was sent.
+/// that were given back; of the door where it was opened, and what passed over each of its links.
 pub(crate) fn obey<R: Threads + Wait + Sync, W: World + Send + Drop>(
     rt: &R,
     alloc: Global,
@@ -113,6 +117,42 @@ pub(crate) fn obey<R: Threads + Wait + Sync, W: World + Send + Drop>(
         (⟦<Folder<HostRuntime, W> as Sources>⟧.faults result.outside.sources)
         (⟦<ProgramCrew<HostRuntime, SocketDialer<HostRuntime>> as Crew>⟧.faults result.outside.crew))
         → IsComplete command result.status }
+
+    // Only a worker and the service of a board have to do with the door.
+    ensures aside { ¬ (AsksForWork words.now)
+        → ⟦<SocketDoor<HostRuntime> as Door>⟧.told result.outside.door
+        ≡ ⟦<SocketDoor<HostRuntime> as Door>⟧.told outside.door }
+
+    // Status 2 comes only where the words are no command, 4 where the file gives no plan to run, 15 where the board
+    // refuses it, 16 where the book's file is one of the older format, and 17 where the log can't be one of the plan.
+    ensures no_command { result.status ≡ NO_COMMAND → command_of words.now ≡ None }
+    ensures refused { result.status ≡ REFUSED
+        → IsRefused words.now (⟦<Folder<HostRuntime, W> as Sources>⟧.contents result.outside.sources) }
+    ensures board_refused { result.status ≡ BOARD_REFUSED → IsBoardRefused words.now
+        (told_as (⟦<FileDesk<HostRuntime, W> as Desk>⟧.state result.outside.desk)
+        (⟦<FileDesk<HostRuntime, W> as Desk>⟧.state outside.desk)) }
+    ensures old_book { result.status ≡ OLD_BOOK → IsOldBook words.now
+        (told_as (⟦<FileDesk<HostRuntime, W> as Desk>⟧.state result.outside.desk)
+        (⟦<FileDesk<HostRuntime, W> as Desk>⟧.state outside.desk)) }
+    ensures log_refused { result.status ≡ LOG_REFUSED
+        → IsLogRefused words.now (⟦<Folder<HostRuntime, W> as Sources>⟧.contents result.outside.sources) }
+
+    // A file can't be read, the disk fails, a text can't be said, no hands are hired and a door fails only where the
+    // count of such faults rose; no count falls.
+    ensures asks { (⟦<FileDesk<HostRuntime, W> as Desk>⟧.state outside.desk).asks
+        ≤ (⟦<FileDesk<HostRuntime, W> as Desk>⟧.state result.outside.desk).asks }
+    ensures door { ⟦<SocketDoor<HostRuntime> as Door>⟧.faults outside.door
+        ≤ ⟦<SocketDoor<HostRuntime> as Door>⟧.faults result.outside.door }
+    ensures causes { HasCausesOr
+        (AsksForWork words.now × Rises (⟦<SocketDoor<HostRuntime> as Door>⟧.faults outside.door)
+        (⟦<SocketDoor<HostRuntime> as Door>⟧.faults result.outside.door))
+        result.status
+        (counts_of (⟦<FileDesk<HostRuntime, W> as Desk>⟧.state outside.desk)
+        (⟦<Folder<HostRuntime, W> as Sources>⟧.faults outside.sources)
+        (⟦<ProgramCrew<HostRuntime, SocketDialer<HostRuntime>> as Crew>⟧.faults outside.crew))
+        (counts_of (⟦<FileDesk<HostRuntime, W> as Desk>⟧.state result.outside.desk)
+        (⟦<Folder<HostRuntime, W> as Sources>⟧.faults result.outside.sources)
+        (⟦<ProgramCrew<HostRuntime, SocketDialer<HostRuntime>> as Crew>⟧.faults result.outside.crew)) }
 {
     taskflow(rt, alloc, words, outside)
 }

@@ -13,8 +13,8 @@ use Rattle.tf_ports.specs.declared.crews.Want.TheVariants as want
 use Rattle.tf_workers.specs.Session.{Serves}
 use Rattle.tf_desk.specs.Crash.{shown_with, ShowsPrefix}
 use Rattle.tf_desk.specs.State.{DeskState, Says}
-use Rattle.tf_workers.specs.declared.serving.ServeEnd.{ServeEnd}
-use Rattle.tf_workers.specs.declared.serving.ServeEnd.TheVariants as end
+use Rattle.tf_sessions.specs.declared.incoming.ServeEnd.{ServeEnd}
+use Rattle.tf_sessions.specs.declared.incoming.ServeEnd.TheVariants as end
 use Rattle.tf_commands.specs.Messages.{IsGivenBack, HiresHere, session_line, session_lines, IsOver, Served, ends_of, seen_with, AreServed, GivesLinks, SaysSession, CutsSession, unsaid_whole, unsaid_part, SaysSessions, SaysNext, StopsNext, ServesAll, Works, HasStopCause, HasServeCause, exhausted_next, no_next_link, unsaid_next, all_served, exhausted, no_link, cut_short, unhired_memory, unhired, unopened_memory, unopened, worked}
 use Rattle.tf_commands.specs.Books.{OnlySays, Hires, AreAllBack}
 use Rattle.tf_report.specs.declared.statuses.TheConstants.{SUCCEEDED, UNHIRED, OUT_OF_MEMORY, UNSAID}

@@ -46,8 +46,8 @@ use Rattle.tf_actions.specs.declared.orders.Order.{Order}
 use Rattle.tf_actions.specs.declared.outcomes.Outcome.{Outcome}
 use Rattle.tf_ports.specs.declared.crews.Address.{Address}
 use Rattle.tf_workers.specs.Session.{Seen, Serves}
-use Rattle.tf_workers.specs.declared.serving.ServeEnd.{ServeEnd}
-use Rattle.tf_workers.specs.declared.serving.ServeEnd.TheVariants as end
+use Rattle.tf_sessions.specs.declared.incoming.ServeEnd.{ServeEnd}
+use Rattle.tf_sessions.specs.declared.incoming.ServeEnd.TheVariants as end
 
 -- ---- what a command says
 
@@ -269,7 +269,7 @@ ends_of sessions = map (λ session. session.how) sessions
 
 -- what is seen of a link and of a hand that had performed these orders
 abbrev pub seen_with : SeenLink → Option (List Order) → Seen
-seen_with link did = record { left = link.left; sent = link.sent; faults = link.faults; ends = link.ends; did = did }
+seen_with link did = record { link = link; did = did }
 
 -- Each session is as a worker serves its link, one after the other, all by one hand, which had performed these orders
 -- before, and these after.

@@ -15,8 +15,8 @@ returns-in-Err-Memory-clause-stopped g c =
 
 pub returns-in-Ok-close-clause-next : goal.returns-in-Ok-close-clause-next
 returns-in-Ok-close-clause-next g c =
-    let first : SeenLink = seen_link g.D.Made.Link.left g.D.Made.Link.sent g.D.Made.Link.faults g.D.Made.Link.ends c.in-Ok.link in
-    let last : SeenLink = seen_link g.D.Made.Link.left g.D.Made.Link.sent g.D.Made.Link.faults g.D.Made.Link.ends c.serve-end.new.link in
+    let first : SeenLink = seen_link g.D.Made.Link.left g.D.Made.Link.transcript g.D.Made.Link.faults g.D.Made.Link.ends c.in-Ok.link in
+    let last : SeenLink = seen_link g.D.Made.Link.left g.D.Made.Link.transcript g.D.Made.Link.faults g.D.Made.Link.ends c.serve-end.new.link in
     let did : Option (List Order) = g.P.Performer.did c.args.hand.now in
     let after_did : Option (List Order) = g.P.Performer.did c.serve-end.new.hand in
     let old : DoorTold = g.D.Door.told c.args.door.now in
@@ -30,8 +30,8 @@ returns-in-Ok-close-clause-next g c =
 
 pub returns-in-Ok-close-clause-stopped : goal.returns-in-Ok-close-clause-stopped
 returns-in-Ok-close-clause-stopped g c =
-    let first : SeenLink = seen_link g.D.Made.Link.left g.D.Made.Link.sent g.D.Made.Link.faults g.D.Made.Link.ends c.in-Ok.link in
-    let last : SeenLink = seen_link g.D.Made.Link.left g.D.Made.Link.sent g.D.Made.Link.faults g.D.Made.Link.ends c.serve-end.new.link in
+    let first : SeenLink = seen_link g.D.Made.Link.left g.D.Made.Link.transcript g.D.Made.Link.faults g.D.Made.Link.ends c.in-Ok.link in
+    let last : SeenLink = seen_link g.D.Made.Link.left g.D.Made.Link.transcript g.D.Made.Link.faults g.D.Made.Link.ends c.serve-end.new.link in
     let did : Option (List Order) = g.P.Performer.did c.args.hand.now in
     let after_did : Option (List Order) = g.P.Performer.did c.serve-end.new.hand in
     let old : DoorTold = g.D.Door.told c.args.door.now in
@@ -45,10 +45,10 @@ returns-in-Ok-close-clause-stopped g c =
 
 pub returns-in-Err-clause-stopped : goal.returns-in-Err-clause-stopped
 returns-in-Err-clause-stopped g c =
-    let first : SeenLink = seen_link g.D.Made.Link.left g.D.Made.Link.sent g.D.Made.Link.faults g.D.Made.Link.ends c.in-Ok.link in
+    let first : SeenLink = seen_link g.D.Made.Link.left g.D.Made.Link.transcript g.D.Made.Link.faults g.D.Made.Link.ends c.in-Ok.link in
     let old : DoorTold = g.D.Door.told c.args.door.now in
     let mid : DoorTold = g.D.Door.told c.accept.new.self in
     let new : DoorTold = g.D.Door.told c.close-2.new.self in
-    let last : SeenLink = seen_link g.D.Made.Link.left g.D.Made.Link.sent g.D.Made.Link.faults g.D.Made.Link.ends c.serve-end.new.link in
+    let last : SeenLink = seen_link g.D.Made.Link.left g.D.Made.Link.transcript g.D.Made.Link.faults g.D.Made.Link.ends c.serve-end.new.link in
     exhausted_next refl refl (first ∷ []) [] (omega arith) (omega arith) (inr (first, last, c.serve-end.result, refl, c.serve-end.ensures))
     (subst (GivesLinks [] (first ∷ []) [] old) (sym (let stays : new ≡ mid = c.in-Err.ensures.not_returned in stays)) (link_besides first old mid c.in-Ok.ensures.gave))
