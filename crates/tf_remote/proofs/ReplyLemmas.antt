@@ -1,5 +1,5 @@
 -- What the bytes of a reply are taken for.
-use Rattle.std.proofs.Common.{◌≡◌, ℕ, ◌≤◌, List, [], ◌++◌, length, true, false, Option, Result, Ok, Err, inl, inr, refl, sym, ap, ◌∙◌, subst, arith}
+use Rattle.std.proofs.Common.{◌≡◌, ℕ, ◌≤◌, List, [], ◌++◌, length, true, false, Result, Ok, Err, inl, inr, refl, sym, ap, ◌∙◌, subst, arith}
 use Rattle.std.specs.Prelude.{IfOk, IfErr, MatchResult}
 use Rattle.tf_numbers.specs.Numbers.{Rises}
 use Rattle.tf_wire.specs.Grammar.{AreResponse}
@@ -7,7 +7,9 @@ use Rattle.tf_wire.specs.declared.messages.Response.{Response}
 use Rattle.tf_wire.specs.declared.messages.Response.TheVariants as response
 use Rattle.tf_workers.specs.Session.{told}
 use Rattle.tf_remote.proofs.FrameLemmas.{short_part}
-use Rattle.tf_ports.specs.Ports.{SeenLink, sent_with, SendsPrefix}
+use Rattle.tf_ports.specs.Ports.{SeenLink}
+use Rattle.tf_ports.specs.Transcript.{Passed, sent_with, SendsPrefix}
+use Rattle.tf_ports.proofs.TranscriptLemmas.{whole_prefix, no_prefix}
 use Rattle.tf_states.specs.declared.record.Failure.{Failure}
 use Rattle.tf_states.specs.declared.record.Failure.TheVariants as failure
 use Rattle.tf_actions.specs.declared.orders.Order.{Order}
@@ -22,7 +24,7 @@ use Rattle.tf_remote.specs.Stopped.{IsStopTaken, IsUnread}
 use Rattle.tf_remote.specs.declared.receiving.Stop.{Stop}
 use Rattle.tf_remote.specs.declared.receiving.Stop.TheVariants as stop
 use Rattle.tf_remote.specs.Requests.{frame_for}
-use Rattle.tf_remote.proofs.ByteLemmas.{brings_more, brings_none, brings_any, gone_later, whole_prefix, no_prefix}
+use Rattle.tf_remote.proofs.ByteLemmas.{brings_more, brings_none, brings_any, brings_behind, gone_later}
 use Rattle.tf_remote.proofs.NearLemmas.{near_is_not_far}
 
 -- ---- the cases of an outcome
@@ -137,7 +139,7 @@ reply_comes order id count before now after came one two = record {
 
 -- ---- an order is asked
 
-fault_sent : (frame : List ℕ) (before now : Option (List ℕ)) (fault : Failure) → now ≡ sent_with before frame → IsSentFor frame before now (outcome.Failed fault)
+fault_sent : (frame : List ℕ) (before now : List Passed) (fault : Failure) → now ≡ sent_with before frame → IsSentFor frame before now (outcome.Failed fault)
 fault_sent frame before now (failure.Raised text) is = is
 fault_sent frame before now (failure.WrongKind name) is = is
 fault_sent frame before now failure.Overflow is = is
@@ -151,7 +153,7 @@ fault_sent frame before now failure.Lost is = whole_prefix before now frame is
 fault_sent frame before now (failure.BadReply count) is = is
 fault_sent frame before now failure.Exhausted is = is
 
-whole_sent : (frame : List ℕ) (before now : Option (List ℕ)) (came : Outcome) → now ≡ sent_with before frame → IsSentFor frame before now came
+whole_sent : (frame : List ℕ) (before now : List Passed) (came : Outcome) → now ≡ sent_with before frame → IsSentFor frame before now came
 whole_sent frame before now (outcome.Gave v) is = is
 whole_sent frame before now (outcome.Failed fault) is = fault_sent frame before now fault is
 
@@ -174,23 +176,29 @@ taken_later order id gone later bytes (outcome.Gave v) on taken = taken
 taken_later order id gone later bytes (outcome.Failed fault) on taken = fault_later order id gone later bytes fault on taken
 
 -- the frame was sent, and the reply came
-pub asked : (order : Order) (id : ℕ) (frame : List ℕ) (before now after : SeenLink) (came : Outcome) → frame ≡ frame_for order id → now.sent ≡ sent_with before.sent frame → now.left ≡ before.left
-    → before.faults ≤ now.faults → before.ends ≤ now.ends → after.sent ≡ now.sent → TakesFor order id now after came → AsksWorker order id before after came
-asked order id frame before now after came named sent left faults ends same takes = record {
-  bytes = takes.bytes;
-  brings = brings_more [] takes.bytes before now after (brings_none before now left faults ends) takes.brings;
-  taken_for = taken_later order id (IsGone now after) (IsGone before after) takes.bytes came (gone_later before now after faults ends) takes.taken_for;
-  sent = whole_sent (frame_for order id) before.sent after.sent came (same ∙ sent ∙ ap (sent_with before.sent) named);
-}
+pub asked : (order : Order) (id : ℕ) (frame : List ℕ) (before now after : SeenLink) (came : Outcome) → frame ≡ frame_for order id → now.transcript ≡ sent_with before.transcript frame → now.left ≡ before.left
+    → before.faults ≤ now.faults → before.ends ≤ now.ends → TakesFor order id now after came → AsksWorker order id before after came
+asked order id frame before now after came named sent left faults ends takes =
+    let whole : now.transcript ≡ sent_with before.transcript (frame_for order id) = sent ∙ ap (sent_with before.transcript) named in record {
+      asked = now.transcript;
+      sent = whole_sent (frame_for order id) before.transcript now.transcript came whole;
+      bytes = takes.bytes;
+      brings = brings_behind takes.bytes before now after left faults ends takes.brings;
+      whole_first = λ some. whole;
+      taken_for = taken_later order id (IsGone now after) (IsGone before after) takes.bytes came (gone_later before now after faults ends) takes.taken_for;
+    }
 
 -- the frame was sent, and memory ran out
-pub asked_in_vain : (order : Order) (id : ℕ) (frame : List ℕ) (before now after : SeenLink) → frame ≡ frame_for order id → now.sent ≡ sent_with before.sent frame → now.left ≡ before.left
-    → before.faults ≤ now.faults → before.ends ≤ now.ends → after.sent ≡ now.sent → BringsAny now after → RunsOutAsking order id before after
-asked_in_vain order id frame before now after named sent left faults ends same came = record {
-  bytes = came.bytes;
-  brings = brings_more [] came.bytes before now after (brings_none before now left faults ends) came.brings;
-  sent = whole_prefix before.sent after.sent (frame_for order id) (same ∙ sent ∙ ap (sent_with before.sent) named);
-}
+pub asked_in_vain : (order : Order) (id : ℕ) (frame : List ℕ) (before now after : SeenLink) → frame ≡ frame_for order id → now.transcript ≡ sent_with before.transcript frame → now.left ≡ before.left
+    → before.faults ≤ now.faults → before.ends ≤ now.ends → BringsAny now after → RunsOutAsking order id before after
+asked_in_vain order id frame before now after named sent left faults ends came =
+    let whole : now.transcript ≡ sent_with before.transcript (frame_for order id) = sent ∙ ap (sent_with before.transcript) named in record {
+      asked = now.transcript;
+      sent = whole_prefix before.transcript now.transcript (frame_for order id) whole;
+      bytes = came.bytes;
+      brings = brings_behind came.bytes before now after left faults ends came.brings;
+      whole_first = λ some. whole;
+    }
 
 -- an order that was asked has an outcome that it may have
 pub asked_gives : (order : Order) (id : ℕ) (before now : SeenLink) (came : Outcome) → is_sent order ≡ true → AsksWorker order id before now came → GivesFar order came
@@ -201,10 +209,10 @@ asked_gives order id before now came sent asks = elim (cases_of order id (IsGone
 ]
 
 -- the frame was sent, and this came of it
-pub ask_result : {E : Type 0} (result : Result Outcome E) (order : Order) (id : ℕ) (frame : List ℕ) (before now after : SeenLink) → frame ≡ frame_for order id → now.sent ≡ sent_with before.sent frame → now.left ≡ before.left
-    → before.faults ≤ now.faults → before.ends ≤ now.ends → after.sent ≡ now.sent → IfOk result (TakesFor order id now after) → IfErr result (λ _. BringsAny now after) → MatchResult result (AsksWorker order id before after) (λ _. RunsOutAsking order id before after)
-ask_result {E} (Ok came) order id frame before now after named sent left faults ends same takes any = asked order id frame before now after came named sent left faults ends same takes
-ask_result {E} (Err e) order id frame before now after named sent left faults ends same takes any = asked_in_vain order id frame before now after named sent left faults ends same any
+pub ask_result : {E : Type 0} (result : Result Outcome E) (order : Order) (id : ℕ) (frame : List ℕ) (before now after : SeenLink) → frame ≡ frame_for order id → now.transcript ≡ sent_with before.transcript frame → now.left ≡ before.left
+    → before.faults ≤ now.faults → before.ends ≤ now.ends → IfOk result (TakesFor order id now after) → IfErr result (λ _. BringsAny now after) → MatchResult result (AsksWorker order id before after) (λ _. RunsOutAsking order id before after)
+ask_result {E} (Ok came) order id frame before now after named sent left faults ends takes any = asked order id frame before now after came named sent left faults ends takes
+ask_result {E} (Err e) order id frame before now after named sent left faults ends takes any = asked_in_vain order id frame before now after named sent left faults ends any
 
 -- an outcome of an order that was asked is one that it may have
 pub gives_result : {E : Type 0} (result : Result Outcome E) (order : Order) (id : ℕ) (before now : SeenLink) → is_sent order ≡ true → MatchResult result (AsksWorker order id before now) (λ _. RunsOutAsking order id before now) → IfOk result (GivesFar order)
@@ -213,16 +221,24 @@ gives_result {E} (Err e) order id before now sent asks = tt
 
 -- nothing was sent, and memory ran out
 pub nothing_asked : (order : Order) (id : ℕ) (before : SeenLink) → RunsOutAsking order id before before
-nothing_asked order id before = record { bytes = []; brings = brings_none before before refl (omega arith) (omega arith); sent = no_prefix before.sent (frame_for order id) }
+nothing_asked order id before = record {
+  asked = before.transcript;
+  sent = no_prefix before.transcript before.transcript (frame_for order id) refl;
+  bytes = [];
+  brings = brings_none before before refl refl (omega arith) (omega arith);
+  whole_first = λ some. absurd (some refl);
+}
 
 -- the link couldn't send
-pub lost_at_once : (order : Order) (id : ℕ) (frame : List ℕ) (before now : SeenLink) → frame ≡ frame_for order id → SendsPrefix before.sent frame now.sent → now.left ≡ before.left
+pub lost_at_once : (order : Order) (id : ℕ) (frame : List ℕ) (before now : SeenLink) → frame ≡ frame_for order id → SendsPrefix before.transcript frame now.transcript → now.left ≡ before.left
     → before.faults ≤ now.faults → before.ends ≤ now.ends → Rises before.faults now.faults → AsksWorker order id before now (outcome.Failed failure.Lost)
 lost_at_once order id frame before now named sent left faults ends rose = record {
+  asked = now.transcript;
+  sent = subst (λ (whole_frame : List ℕ). SendsPrefix before.transcript whole_frame now.transcript) named sent;
   bytes = [];
-  brings = brings_none before now left faults ends;
+  brings = brings_none (record before { transcript = now.transcript }) now left refl faults ends;
+  whole_first = λ some. absurd (some refl);
   taken_for = (inl (short_part [] (omega arith)), inl rose);
-  sent = subst (λ (whole_frame : List ℕ). SendsPrefix before.sent whole_frame now.sent) named sent;
 }
 
 -- ---- what a frame tells

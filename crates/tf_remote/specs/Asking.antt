@@ -1,8 +1,9 @@
 -- How a remote hand asks its worker.
-use Rattle.std.specs.Prelude.{◌≡◌, ◌↔◌, ℕ, List, ◌++◌, true, Option, Some, Result, IfOk}
+use Rattle.std.specs.Prelude.{◌≡◌, ◌≢◌, ◌↔◌, ℕ, List, [], ◌++◌, true, Some, Result, IfOk}
 use Rattle.serde_json.specs.Written.{compact_text}
 use Rattle.tf_numbers.specs.Numbers.{Rises}
-use Rattle.tf_ports.specs.Ports.{SeenLink, sent_with, SendsPrefix}
+use Rattle.tf_ports.specs.Ports.{SeenLink}
+use Rattle.tf_ports.specs.Transcript.{Passed, sent_with, SendsPrefix}
 use Rattle.tf_states.specs.declared.record.Failure.TheVariants as failure
 use Rattle.tf_actions.specs.Gives.{Gives, is_sent}
 use Rattle.tf_actions.specs.declared.orders.Order.{Order}
@@ -18,28 +19,36 @@ use Rattle.tf_remote.specs.Replies.{IsReply, IsTakenFor}
 use Rattle.tf_remote.specs.Requests.{pairs_asked, request_for, frame_for}
 
 -- what the link was sent: the whole frame of the request, or, where the worker is lost, a prefix of it
-abbrev pub IsSentFor : List ℕ → Option (List ℕ) → Option (List ℕ) → Outcome → Type 0
+abbrev pub IsSentFor : List ℕ → List Passed → List Passed → Outcome → Type 0
 IsSentFor frame before now (outcome.Failed failure.Lost) = SendsPrefix before frame now
 IsSentFor frame before now came = now ≡ sent_with before frame
 
--- An order was asked of the worker: the frame of its request was sent, and the outcome is what the bytes are taken for
--- that the link gave meanwhile.
+-- some bytes came only where the whole frame had been sent before
+abbrev pub IsWholeFirst : List ℕ → List Passed → List Passed → List ℕ → Type 0
+IsWholeFirst frame before asked bytes = bytes ≢ [] → asked ≡ sent_with before frame
+
+-- An order was asked of the worker. First the frame of its request was sent; so much had passed when it was asked. Then
+-- the link gave some bytes, and nothing more was sent. The outcome is what these bytes are taken for.
 pub record AsksWorker (order : Order) (id : ℕ) (before now : SeenLink) (came : Outcome) : Type 0 where
+  pub asked : List Passed
+  pub sent : IsSentFor (frame_for order id) before.transcript asked came
   pub bytes : List ℕ
-  pub brings : Brings bytes before now
+  pub brings : Brings bytes (record before { transcript = asked }) now
+  pub whole_first : IsWholeFirst (frame_for order id) before.transcript asked bytes
   pub taken_for : IsTakenFor order id (IsGone before now) bytes came
-  pub sent : IsSentFor (frame_for order id) before.sent now.sent came
 
 -- an order that is sent, and whose worker was lost
 pub record IsLostOnTheWay (order : Order) (came : Outcome) : Type 0 where
   pub sent : is_sent order ≡ true
   pub lost : came ≡ outcome.Failed failure.Lost
 
--- memory ran out while an order was asked: a prefix of the frame was sent
+-- memory ran out while an order was asked: first a prefix of the frame was sent, and then some bytes came
 pub record RunsOutAsking (order : Order) (id : ℕ) (before now : SeenLink) : Type 0 where
+  pub asked : List Passed
+  pub sent : SendsPrefix before.transcript (frame_for order id) asked
   pub bytes : List ℕ
-  pub brings : Brings bytes before now
-  pub sent : SendsPrefix before.sent (frame_for order id) now.sent
+  pub brings : Brings bytes (record before { transcript = asked }) now
+  pub whole_first : IsWholeFirst (frame_for order id) before.transcript asked bytes
 
 -- the bytes of the frame behind its length are the request, where no argument's name stands twice
 unfoldable pub IsRequestBack : Order → ℕ → Type 0

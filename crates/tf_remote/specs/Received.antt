@@ -1,15 +1,21 @@
 -- What a link gave.
-use Rattle.std.specs.Prelude.{◌≡◌, ℕ, ◌<◌, ◌≤◌, ◌^◌, List, length, false, ◌⊎◌}
+use Rattle.std.specs.Prelude.{◌≡◌, ℕ, ◌<◌, ◌≤◌, ◌^◌, List, [], ◌++◌, length, false, ◌⊎◌}
 use Rattle.std.specs.Int.{to_be_bytes, w32}
 use Rattle.tf_numbers.specs.Numbers.{Rises}
 use Rattle.tf_ports.specs.Ports.{SeenLink, left_before, IsNothingLeft}
+use Rattle.tf_ports.specs.Transcript.{Passed, received_in, sent_in}
 use Rattle.tf_wire.specs.Stream.{is_length, IsFrame, framed, BeginsWithFrame, BeginsWithBadLength}
 use Rattle.tf_remote.specs.declared.receiving.Stop.{Stop}
 use Rattle.tf_remote.specs.declared.receiving.Stop.TheVariants as stop
 
--- the link gave exactly these bytes, and no count fell
+-- The link gave exactly these bytes, and no count fell. Only these passed meanwhile: in pieces that came, and nothing
+-- was sent.
 pub record Brings (bytes : List ℕ) (before now : SeenLink) : Type 0 where
   pub came : before.left ≡ left_before bytes now.left
+  pub passed : List Passed
+  pub went : now.transcript ≡ before.transcript ++ passed
+  pub none_sent : sent_in passed ≡ []
+  pub given : received_in passed ≡ bytes
   pub faults : before.faults ≤ now.faults
   pub ends : before.ends ≤ now.ends
 

@@ -65,19 +65,19 @@ impl<L: Link> RemoteHand<L> {
         ensures no_fall { (L.faults self.old.link ≤ L.faults self.new.link)
             × (L.ends self.old.link ≤ L.ends self.new.link) }
         ensures asked { goes_far order.now ≡ true → MatchResult result
-            (AsksWorker order.now self.old.next (seen_link L.left L.sent L.faults L.ends self.old.link)
-            (seen_link L.left L.sent L.faults L.ends self.new.link))
-            (λ _. RunsOutAsking order.now self.old.next (seen_link L.left L.sent L.faults L.ends self.old.link)
-            (seen_link L.left L.sent L.faults L.ends self.new.link)) }
+            (AsksWorker order.now self.old.next (seen_link L.left L.transcript L.faults L.ends self.old.link)
+            (seen_link L.left L.transcript L.faults L.ends self.new.link))
+            (λ _. RunsOutAsking order.now self.old.next (seen_link L.left L.transcript L.faults L.ends self.old.link)
+            (seen_link L.left L.transcript L.faults L.ends self.new.link)) }
         ensures counted { goes_far order.now ≡ true → OnOk result (self.new.next ≡ next_id self.old.next) }
         ensures names { goes_far order.now ≡ true → NamesOrder order.now self.old.next }
         ensures read_back { goes_far order.now ≡ true → OnOk result (IsRequestBack order.now self.old.next) }
         ensures replied { goes_far order.now ≡ true → TakesReply order.now self.old.next
-            (seen_link L.left L.sent L.faults L.ends self.old.link)
-            (seen_link L.left L.sent L.faults L.ends self.new.link) result }
+            (seen_link L.left L.transcript L.faults L.ends self.old.link)
+            (seen_link L.left L.transcript L.faults L.ends self.new.link) result }
         ensures served { goes_far order.now ≡ true → TakesServed order.now self.old.next
-            (seen_link L.left L.sent L.faults L.ends self.old.link)
-            (seen_link L.left L.sent L.faults L.ends self.new.link) result }
+            (seen_link L.left L.transcript L.faults L.ends self.old.link)
+            (seen_link L.left L.transcript L.faults L.ends self.new.link) result }
     {
         if !order.is_sent() {
             return value_of(alloc, order);
@@ -109,10 +109,10 @@ fn ask<L: Link>(
 ) -> Result<Outcome, Memory>
     requires whole { IsWhole order.now }
     requires frame { frame.now ≡ frame_for order.now id }
-    ensures { MatchResult result (AsksWorker order.now id (seen_link L.left L.sent L.faults L.ends link.old)
-        (seen_link L.left L.sent L.faults L.ends link.new))
-        (λ _. RunsOutAsking order.now id (seen_link L.left L.sent L.faults L.ends link.old)
-        (seen_link L.left L.sent L.faults L.ends link.new)) }
+    ensures { MatchResult result (AsksWorker order.now id (seen_link L.left L.transcript L.faults L.ends link.old)
+        (seen_link L.left L.transcript L.faults L.ends link.new))
+        (λ _. RunsOutAsking order.now id (seen_link L.left L.transcript L.faults L.ends link.old)
+        (seen_link L.left L.transcript L.faults L.ends link.new)) }
 {
     match link.send(frame) {
         Ok(()) => receive_reply(alloc, link, id, order),

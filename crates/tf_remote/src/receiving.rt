@@ -26,12 +26,11 @@ pub enum Stop {
 
 /// The next frame over the link. No byte behind it is asked for.
 pub fn receive<L: Link>(alloc: Global, link: &mut L) -> Result<Vec<u8>, Stop>
-    ensures came { MatchResult result
-        (λ frame. BringsFrame frame.items (seen_link L.left L.sent L.faults L.ends link.old)
-        (seen_link L.left L.sent L.faults L.ends link.new))
-        (StopsFrame IsPart IsBadLength (seen_link L.left L.sent L.faults L.ends link.old)
-        (seen_link L.left L.sent L.faults L.ends link.new)) }
-    ensures sent { L.sent link.new ≡ L.sent link.old }
+    ensures { MatchResult result
+        (λ frame. BringsFrame frame.items (seen_link L.left L.transcript L.faults L.ends link.old)
+        (seen_link L.left L.transcript L.faults L.ends link.new))
+        (StopsFrame IsPart IsBadLength (seen_link L.left L.transcript L.faults L.ends link.old)
+        (seen_link L.left L.transcript L.faults L.ends link.new)) }
 {
     let prefix = match receive_bytes(alloc, link, 4) {
         Ok(prefix) => prefix,
@@ -46,12 +45,11 @@ pub fn receive<L: Link>(alloc: Global, link: &mut L) -> Result<Vec<u8>, Stop>
 
 /// So many bytes over the link, and no more. Memory is taken for those that came alone.
 fn receive_bytes<L: Link>(alloc: Global, link: &mut L, count: usize) -> Result<Vec<u8>, Stop>
-    ensures came { MatchResult result
-        (λ bytes. BringsCount count bytes.items (seen_link L.left L.sent L.faults L.ends link.old)
-        (seen_link L.left L.sent L.faults L.ends link.new))
-        (StopsFrame (IsShorter count) IsNever (seen_link L.left L.sent L.faults L.ends link.old)
-        (seen_link L.left L.sent L.faults L.ends link.new)) }
-    ensures sent { L.sent link.new ≡ L.sent link.old }
+    ensures { MatchResult result
+        (λ bytes. BringsCount count bytes.items (seen_link L.left L.transcript L.faults L.ends link.old)
+        (seen_link L.left L.transcript L.faults L.ends link.new))
+        (StopsFrame (IsShorter count) IsNever (seen_link L.left L.transcript L.faults L.ends link.old)
+        (seen_link L.left L.transcript L.faults L.ends link.new)) }
 {
     let mut bytes = Vec::new(alloc);
     let mut piece = [0; PIECE];

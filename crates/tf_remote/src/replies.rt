@@ -25,11 +25,10 @@ pub fn receive_reply<L: Link>(
     order: &Order,
 ) -> Result<Outcome, Memory>
     requires { IsWhole order.now }
-    ensures came { IfOk result (TakesFor order.now id (seen_link L.left L.sent L.faults L.ends link.old)
-        (seen_link L.left L.sent L.faults L.ends link.new)) }
-    ensures memory { IfErr result (λ _. BringsAny (seen_link L.left L.sent L.faults L.ends link.old)
-        (seen_link L.left L.sent L.faults L.ends link.new)) }
-    ensures sent { L.sent link.new ≡ L.sent link.old }
+    ensures came { IfOk result (TakesFor order.now id (seen_link L.left L.transcript L.faults L.ends link.old)
+        (seen_link L.left L.transcript L.faults L.ends link.new)) }
+    ensures memory { IfErr result (λ _. BringsAny (seen_link L.left L.transcript L.faults L.ends link.old)
+        (seen_link L.left L.transcript L.faults L.ends link.new)) }
 {
     let count = match receive_running(alloc, link, id) {
         Ok(count) => count,
@@ -54,12 +53,11 @@ fn taken_for(stop: Stop, count: u32) -> Result<Outcome, Memory>
 
 /// Takes the frame that tells that the order of that id runs, and answers how many bytes it has in the stream.
 fn receive_running<L: Link>(alloc: Global, link: &mut L, id: u64) -> Result<u32, Stop>
-    ensures came { MatchResult result
-        (λ count. BringsSome (IsFirstFrame id count) (seen_link L.left L.sent L.faults L.ends link.old)
-        (seen_link L.left L.sent L.faults L.ends link.new))
-        (StopsFrame IsPart (IsFrameRefused (TellsRunning id)) (seen_link L.left L.sent L.faults L.ends link.old)
-        (seen_link L.left L.sent L.faults L.ends link.new)) }
-    ensures sent { L.sent link.new ≡ L.sent link.old }
+    ensures { MatchResult result
+        (λ count. BringsSome (IsFirstFrame id count) (seen_link L.left L.transcript L.faults L.ends link.old)
+        (seen_link L.left L.transcript L.faults L.ends link.new))
+        (StopsFrame IsPart (IsFrameRefused (TellsRunning id)) (seen_link L.left L.transcript L.faults L.ends link.old)
+        (seen_link L.left L.transcript L.faults L.ends link.new)) }
 {
     let frame = match receive(alloc, link) {
         Ok(frame) => frame,
@@ -80,12 +78,13 @@ fn receive_outcome<L: Link>(
     order: &Order,
 ) -> Result<Outcome, Stop>
     requires { IsWhole order.now }
-    ensures came { MatchResult result
-        (λ outcome. BringsSome (IsOutcomeFrame order.now id outcome) (seen_link L.left L.sent L.faults L.ends link.old)
-        (seen_link L.left L.sent L.faults L.ends link.new))
-        (StopsFrame IsPart (IsFrameRefused (TellsAny order.now id)) (seen_link L.left L.sent L.faults L.ends link.old)
-        (seen_link L.left L.sent L.faults L.ends link.new)) }
-    ensures sent { L.sent link.new ≡ L.sent link.old }
+    ensures { MatchResult result
+        (λ outcome. BringsSome (IsOutcomeFrame order.now id outcome)
+        (seen_link L.left L.transcript L.faults L.ends link.old)
+        (seen_link L.left L.transcript L.faults L.ends link.new))
+        (StopsFrame IsPart (IsFrameRefused (TellsAny order.now id))
+        (seen_link L.left L.transcript L.faults L.ends link.old)
+        (seen_link L.left L.transcript L.faults L.ends link.new)) }
 {
     let frame = match receive(alloc, link) {
         Ok(frame) => frame,

@@ -5,8 +5,7 @@ use Rattle.tf_remote.proofs.receiving.receive_bytes.Given as goal
 
 abbrev pub invariant-loop-piece : goal.invariant-loop-piece
 invariant-loop-piece g l = record {
-  brings : Brings l.bytes.items (seen_link g.L.Link.left g.L.Link.sent g.L.Link.faults g.L.Link.ends l.fn.link) (seen_link g.L.Link.left g.L.Link.sent g.L.Link.faults g.L.Link.ends l.link);
-  sent : g.L.Link.sent l.link ≡ g.L.Link.sent l.fn.link;
+  brings : Brings l.bytes.items (seen_link g.L.Link.left g.L.Link.transcript g.L.Link.faults g.L.Link.ends l.fn.link) (seen_link g.L.Link.left g.L.Link.transcript g.L.Link.faults g.L.Link.ends l.link);
   within : length l.bytes.items ≤ l.count;
   size : length l.piece ≡ 8192;
 }

@@ -2,8 +2,8 @@ use Rattle.tf_ports.specs.Ports.{SeenLink, seen_link}
 use Rattle.tf_remote.proofs.ReplyLemmas.{outcome_result}
 use Rattle.tf_remote.proofs.replies.receive_outcome.Goals as goal
 
-pub returns-clause-came : goal.returns-clause-came
-returns-clause-came g c =
-    let before : SeenLink = seen_link g.L.Link.left g.L.Link.sent g.L.Link.faults g.L.Link.ends c.args.link.now in
-    let now : SeenLink = seen_link g.L.Link.left g.L.Link.sent g.L.Link.faults g.L.Link.ends c.receive.new.link in
-    outcome_result c.outcome_in.result c.args.order.now c.args.id c.deref.result.now c.in-Ok.frame.items before now c.deref.ensures.value c.in-Ok.ensures.came c.outcome_in.ensures
+pub returns : goal.returns
+returns g c =
+    let before : SeenLink = seen_link g.L.Link.left g.L.Link.transcript g.L.Link.faults g.L.Link.ends c.args.link.now in
+    let now : SeenLink = seen_link g.L.Link.left g.L.Link.transcript g.L.Link.faults g.L.Link.ends c.receive.new.link in
+    outcome_result c.outcome_in.result c.args.order.now c.args.id c.deref.result.now c.in-Ok.frame.items before now c.deref.ensures.value c.in-Ok.ensures c.outcome_in.ensures
