@@ -1,5 +1,5 @@
 -- The links that a door gives, and those that are given back to it.
-use Rattle.std.proofs.Common.{◌≡◌, ◌≤◌, ℕ, ◌+◌, List, [], ◌∷◌, ◌++◌, length, Option, Some, None, Result, Ok, Err, refl, sym, ap, ◌∙◌, arith, append_assoc, append-nil, length-append}
+use Rattle.std.proofs.Common.{◌≡◌, ◌≤◌, ℕ, List, [], ◌∷◌, ◌++◌, length, Option, Some, None, Result, Ok, Err, refl, sym, ap, ◌∙◌, arith, append_assoc, append-nil, length-append}
 use Rattle.std.specs.Prelude.{OnOk}
 use Rattle.tf_actions.specs.Gives.{told_with}
 use Rattle.tf_ports.specs.Ports.{DoorTold, SeenLink, gave_link, told_with_all, took_back}

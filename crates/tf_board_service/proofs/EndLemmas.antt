@@ -11,6 +11,7 @@ use Rattle.tf_shared_board.specs.declared.calls.Made.{Made}
 use Rattle.tf_turnstile.specs.Numbered.{AreNumberedBelow, IsLater}
 use Rattle.tf_turnstile.specs.Passes.{TurnstileValue, PassValue, IsIdle, AreAll, AreNew, HasGrown}
 use Rattle.tf_ports.specs.Ports.{SeenLink, seen_link}
+use Rattle.tf_ports.specs.Transcript.{Passed}
 use Rattle.tf_board_service.specs.Serving.{IsServing, ServingValue, made_since}
 use Rattle.tf_board_service.specs.Sessions.{HaltsWith, IsServed, is_halted}
 use Rattle.tf_board_service.specs.Served.{AreServed}
@@ -21,6 +22,12 @@ use Rattle.tf_board_service.proofs.PassLemmas.{all_seen, later_waited}
 use Rattle.tf_board_service.proofs.SessionLemmas.{over_waited}
 
 -- ---- lists
+
+-- what was there before more came
+pub take_prefix : {X : Type 0} (xs zs : List X) → take (length xs) (xs ++ zs) ≡ xs
+take_prefix [] [] = refl
+take_prefix [] (z ∷ zs) = refl
+take_prefix (x ∷ xs) zs = ap (λ l. x ∷ l) (take_prefix xs zs)
 
 -- an element of a list, whatever stands for one past its end
 pub item_at : {X : Type 0} (xs : List X) (i : ℕ) → i < length xs → X
@@ -48,9 +55,9 @@ below_all bound calls all i d below =
     subst (λ (e : ℕ × Made). e.0 < bound) (get_or-map carried calls i d (carried d) below) (all i (carried d) (omega (arith, below, length-map calls carried)))
 
 module _ {K W L : Type 0} (state : K → DeskState) (turnstile : TurnstileValue (ServingValue K)) (pass_of : W → PassValue (ServingValue K) Made) (link_of : W → L) (session_of : W → Session)
-    (left sent : L → Option (List ℕ)) (faults ends : L → ℕ) where
+    (left : L → Option (List ℕ)) (transcript : L → List Passed) (faults ends : L → ℕ) where
   abbrev see : L → SeenLink
-  see link = seen_link left sent faults ends link
+  see link = seen_link left transcript faults ends link
 
   -- each has a pass as it is made
   pub all_hired : (workers : List W) (passes : List (PassValue (ServingValue K) Made)) → map pass_of workers ≡ passes → AreNew turnstile passes → IsFresh turnstile → length workers ≤ 64
@@ -142,7 +149,7 @@ module _ {K W L : Type 0} (state : K → DeskState) (turnstile : TurnstileValue 
 
         -- what a service leaves
         pub whole_end : length old ≡ turnstile.passes → (links returned : List L) (sessions : List Session) → map link_of old ≡ links → returned ≡ map link_of new → sessions ≡ map session_of new → AreOfBoard now.board.past
-            → AreServed state left sent faults ends turnstile.start.begun now links returned sessions
+            → AreServed state left transcript faults ends turnstile.start.begun now links returned sessions
         whole_end count links returned sessions first last told legal =
             let many : length links ≡ length old = ap length (sym first) ∙ length-map old link_of in
             record {

@@ -1,7 +1,6 @@
 pub mod PointLemmas
 pub mod OwnLemmas
 pub mod PrintLemmas
-pub mod FrameLemmas
 pub mod SessionLemmas
 pub mod TurnLemmas
 pub mod PassLemmas

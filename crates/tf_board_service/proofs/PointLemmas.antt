@@ -8,7 +8,7 @@ use Rattle.std.proofs.lemmas.Grind.{flat_map-append}
 use Rattle.tf_board.specs.declared.commands.Command.{Command}
 use Rattle.tf_shared_board.specs.Shared.{followed_by, made_command}
 use Rattle.tf_shared_board.specs.declared.calls.Made.{Made}
-use Rattle.tf_board_service.specs.Sessions.{call_made, Exchange, IsAtPoint, MadeBy, NeverFall, after_point, as_list, call_of, calls_by, calls_of, first_of, told, told_all, reply_frame, reply_of}
+use Rattle.tf_board_service.specs.Sessions.{call_made, Exchange, IsAtPoint, MadeBy, NeverFall, after_point, as_list, call_of, calls_by, calls_of, first_of, told, replies, reply_frame, reply_of}
 
 -- ---- commands
 
@@ -71,11 +71,11 @@ module _ (number : ℕ) (past : List Command) where
           subst (λ (c : Option Made). NeverFall number (newer ++ past) (after_point c e.point) exchanges) (sym (call_stays e (point_within least e exchanges is))) (points_stay (after_point o e.point) exchanges is.1),
         )
 
-    pub told_stays : (least : ℕ) (exchanges : List Exchange) → NeverFall number past least exchanges → told_all (newer ++ past) exchanges ≡ told_all past exchanges
-    told_stays least [] is = refl
-    told_stays least (e ∷ exchanges) is =
-        ap (λ (l : List ℕ). l ++ told_all (newer ++ past) exchanges) (told_stays_one e (point_within least e exchanges is))
-        ∙ ap (λ (l : List ℕ). told past e ++ l) (told_stays (after_point (call_of number past e) e.point) exchanges is.1)
+    pub replies_stay : (least : ℕ) (exchanges : List Exchange) → NeverFall number past least exchanges → replies (newer ++ past) exchanges ≡ replies past exchanges
+    replies_stay least [] is = refl
+    replies_stay least (e ∷ exchanges) is =
+        ap (λ (first : List ℕ). first ∷ replies (newer ++ past) exchanges) (told_stays_one e (point_within least e exchanges is))
+        ∙ ap (λ (others : List (List ℕ)). told past e ∷ others) (replies_stay (after_point (call_of number past e) e.point) exchanges is.1)
 
     pub calls_stay : (least : ℕ) (exchanges : List Exchange) → NeverFall number past least exchanges → calls_of number (newer ++ past) exchanges ≡ calls_of number past exchanges
     calls_stay least [] is = refl

@@ -1,7 +1,6 @@
 pub mod Sessions
 pub mod Printing
 pub mod Serving
-pub mod Receiving
 pub mod Turns
 pub mod Turning
 pub mod Served

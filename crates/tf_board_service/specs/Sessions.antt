@@ -21,8 +21,9 @@ use Rattle.tf_shared_board.specs.declared.calls.BoardHalt.{BoardHalt}
 use Rattle.tf_shared_board.specs.declared.calls.Made.{Made}
 use Rattle.tf_values.specs.declared.faults.Memory.{Memory}
 use Rattle.tf_numbers.specs.Numbers.{Rises}
-use Rattle.tf_ports.specs.Ports.{IsNothingLeft, SeenLink, SendsPrefix, left_before, sent_with, DoorTold, opened_at, told_with_all}
-use Rattle.tf_wire.specs.Stream.{counted, IsFrame, framed, joined, SplitsInto, BeginsWithFrame, BeginsWithBadLength}
+use Rattle.tf_ports.specs.Ports.{SeenLink, DoorTold, opened_at, told_with_all}
+use Rattle.tf_sessions.specs.Talks.{Talk, TalkEndsAs, BeginsWithFrameSo}
+use Rattle.tf_sessions.specs.declared.incoming.ServeEnd.{ServeEnd}
 use Rattle.tf_board_service.specs.declared.sessions.Session.{Session}
 use Rattle.tf_board_service.specs.declared.sessions.SessionEnd.{SessionEnd}
 use Rattle.std.specs.Fmt.{decimal}
@@ -42,6 +43,7 @@ use Rattle.tf_board.specs.declared.calls.JobCall.TheVariants as call
 use Rattle.tf_board_service.specs.declared.replies.BoardReply.TheVariants as reply
 use Rattle.tf_board.specs.declared.calls.BoardRequest.TheVariants as request
 use Rattle.tf_board_service.specs.declared.sessions.SessionEnd.TheVariants as end
+use Rattle.tf_sessions.specs.declared.incoming.ServeEnd.TheVariants as talked
 
 -- ---- what a client asks, as JSON: an object with the keys of its call and no others
 
@@ -237,8 +239,8 @@ abbrev pub told : List Command → Exchange → List ℕ
 told past e = reply_frame (reply_of (first_of e.point past) e.request)
 
 -- the frames of the replies, in order
-abbrev pub told_all : List Command → List Exchange → List ℕ
-told_all past exchanges = flat_map (told past) exchanges
+abbrev pub replies : List Command → List Exchange → List (List ℕ)
+replies past exchanges = map (told past) exchanges
 
 -- the call that it made under a session's number, unless it was refused or asks for none
 abbrev pub call_of : ℕ → List Command → Exchange → Option Made
@@ -290,65 +292,50 @@ AreRead [] (e ∷ exchanges) = ⊥
 AreRead (frame ∷ frames) [] = ⊥
 AreRead (frame ∷ frames) (e ∷ exchanges) = (board_request_in frame ≡ Some e.request) × AreRead frames exchanges
 
--- a whole frame stands at the front, and spells this request or none
-pub record BeginsWith (bytes : List ℕ) (spelled : Option BoardRequest) : Type 0 where
-  pub frame : List ℕ
-  pub behind : List ℕ
-  pub is_frame : IsFrame frame
-  pub prefix : bytes ≡ framed frame ++ behind
-  pub spells : board_request_in frame ≡ spelled
-
--- ---- links
-
--- the link ended
-pub record IsLinkOver (before now : SeenLink) : Type 0 where
-  pub rose : Rises before.ends now.ends
-  pub nothing_left : IsNothingLeft now.left
-
--- some bytes stand behind the frames that are no whole frame, and might become one
-pub record IsCutShort (behind : List ℕ) : Type 0 where
-  pub some : behind ≢ []
-  pub no_frame : ¬ (BeginsWithFrame behind)
-  pub not_bad : ¬ (BeginsWithBadLength behind)
+-- the frame spells no request
+abbrev pub SpellsNone : List ℕ → Type 0
+SpellsNone frame = board_request_in frame ≡ None
 
 -- ---- sessions
 
--- The link gave some bytes. The frames at their front were read as requests, and each was answered from the commands
--- that stood before it then. The link was sent a prefix of the replies. The calls of the session are just those of its
--- requests.
+-- Of the bytes that the link gave the frames at their front were read as requests. Each was answered from the commands
+-- that stood before it then: the link was sent a prefix of the replies, each before more came. The calls of the session
+-- are just those of its requests.
 pub record Serves (number first : ℕ) (past : List Command) (calls : List Made) (before now : SeenLink)
     (points : List ℕ) : Type 0 where
-  pub given : List ℕ
-  pub came : before.left ≡ left_before given now.left
   pub frames : List (List ℕ)
-  pub behind : List ℕ
-  pub cut : SplitsInto given frames behind
   pub exchanges : List Exchange
   pub read : AreRead frames exchanges
   pub points_are : points ≡ points_of exchanges
   pub rising : NeverFall number past first exchanges
-  pub sent : SendsPrefix before.sent (told_all past exchanges) now.sent
+  pub talk : Talk before now frames (replies past exchanges) []
   pub more : List Made
   pub made : MadeBy number past first calls exchanges more
-  pub faults : before.faults ≤ now.faults
-  pub ends : before.ends ≤ now.ends
-
--- the whole of the replies was sent, and no call was made but those of the requests that were answered
-pub record IsFullyAnswered {number first : ℕ} {past : List Command} {calls : List Made} {before now : SeenLink}
-    {points : List ℕ}
-    (s : Serves number first past calls before now points) : Type 0 where
-  pub sent : now.sent ≡ sent_with before.sent (told_all past s.exchanges)
-  pub none_more : s.more ≡ []
 
 -- one call more is that of the next request, whose reply wasn't sent
 pub record IsNextCall (number : ℕ) (past : List Command) (behind : List ℕ) (more : List Made) : Type 0 where
   pub request : BoardRequest
   pub point : ℕ
   pub within : point ≤ length past
-  pub begins : BeginsWith behind (Some request)
+  pub begins : BeginsWithFrameSo (λ frame. board_request_in frame ≡ Some request) behind
   pub call : Made
   pub makes : call_made number (first_of point past) request ≡ Some call
   pub is : more ≡ call ∷ []
+
+-- the end of the talk over the link of a session that ended so
+abbrev pub talk_end : SessionEnd → ServeEnd
+talk_end end.Ended = talked.Ended
+talk_end end.Lost = talked.Lost
+talk_end (end.Bad at) = talked.Bad at
+talk_end end.Halted = talked.Memory
+
+-- which calls were made besides those of the requests that were answered: none; where the session is halted, none or
+-- that of the next request
+abbrev pub IsMoreAt : SessionEnd → ℕ → List Command → List ℕ → List Made → Type 0
+IsMoreAt end.Ended number past behind more = more ≡ []
+IsMoreAt end.Lost number past behind more = more ≡ []
+IsMoreAt (end.Bad at) number past behind more = more ≡ []
+IsMoreAt end.Halted number past behind more = (more ≡ []) ⊎ IsNextCall number past behind more
 
 -- How a session ends. Ended: the link ended between two frames. Lost: the link failed, or it ended inside a frame. Bad:
 -- at this place stands a frame that spells no request, or a length that no frame has. Halted: one call more may have
@@ -356,15 +343,8 @@ pub record IsNextCall (number : ℕ) (past : List Command) (behind : List ℕ) (
 abbrev pub SessionEndsAs : {number first : ℕ} {past : List Command} {calls : List Made} {before now : SeenLink}
     {points : List ℕ}
     → SessionEnd → Serves number first past calls before now points → Type 0
-SessionEndsAs {number} {first} {past} {calls} {before} {now} end.Ended s =
-    IsFullyAnswered s × (s.behind ≡ []) × IsLinkOver before now
-SessionEndsAs {number} {first} {past} {calls} {before} {now} end.Lost s =
-    ((s.more ≡ []) × Rises before.faults now.faults) ⊎ (IsFullyAnswered s × IsCutShort s.behind × IsLinkOver before now)
-SessionEndsAs {number} {first} {past} {calls} {before} {now} (end.Bad at) s =
-    IsFullyAnswered s × (at ≡ counted (length (joined s.frames)))
-    × (BeginsWith s.behind None ⊎ BeginsWithBadLength s.behind)
-SessionEndsAs {number} {first} {past} {calls} {before} {now} end.Halted s =
-    (s.more ≡ []) ⊎ IsNextCall number past s.behind s.more
+SessionEndsAs {number} {first} {past} how s =
+    TalkEndsAs SpellsNone (talk_end how) s.talk × IsMoreAt how number past s.talk.behind s.more
 
 -- what a session promises
 pub record IsServed (number first : ℕ) (past : List Command) (calls : List Made) (before now : SeenLink)

@@ -1,15 +1,15 @@
 -- What one turn adds to the calls, and a session while it goes on. Lists of commands have the newest first, lists of
 -- calls the oldest.
-use Rattle.std.specs.Prelude.{◌≡◌, ◌≢◌, ◌⊎◌, ℕ, ◌≤◌, List, [], ◌∷◌, ◌++◌, length, Option, Some, None}
+use Rattle.std.specs.Prelude.{◌≡◌, ◌≢◌, ◌⊎◌, ℕ, List, [], ◌∷◌, ◌++◌, length, Option, Some, None}
 use Rattle.std.specs.List.{AllByRecursion}
 use Rattle.tf_numbers.specs.Numbers.{Rises}
-use Rattle.tf_ports.specs.Ports.{SeenLink, SendsPrefix, left_before, sent_with}
-use Rattle.tf_wire.specs.Stream.{KeptFrames, KeepsStream, counted, joined}
+use Rattle.tf_ports.specs.Ports.{SeenLink}
+use Rattle.tf_sessions.specs.Talks.{Stands, Says, SaysPart}
+use Rattle.tf_sessions.specs.declared.incoming.Incoming.{Incoming}
 use Rattle.tf_board.specs.declared.commands.Command.{Command}
 use Rattle.tf_shared_board.specs.Shared.{followed_by}
 use Rattle.tf_shared_board.specs.declared.calls.Made.{Made}
-use Rattle.tf_board_service.specs.Sessions.{call_made, Exchange, MadeBy, NeverFall, as_list, points_of, told_all, reply_frame, reply_of, AreRead, IsServed, board_request_in}
-use Rattle.tf_board_service.specs.Receiving.{IsKnown}
+use Rattle.tf_board_service.specs.Sessions.{call_made, Exchange, MadeBy, NeverFall, as_list, points_of, replies, reply_frame, reply_of, AreRead, IsServed, board_request_in}
 use Rattle.tf_board_service.specs.declared.replies.BoardReply.{BoardReply}
 use Rattle.tf_board.specs.declared.calls.BoardRequest.{BoardRequest}
 use Rattle.tf_board_service.specs.declared.sessions.SessionEnd.{SessionEnd}
@@ -57,27 +57,19 @@ pub record HasTaken (number : ℕ) (past : List Command) (frame : List ℕ) (old
   pub turn : HasReplied past number asked old new point reply
   pub points : new_points ≡ old_points ++ point ∷ []
 
--- nothing was taken from the link, and no count fell
-pub record TakesNothing (before now : SeenLink) : Type 0 where
-  pub left : now.left ≡ before.left
-  pub faults : before.faults ≤ now.faults
-  pub ends : before.ends ≤ now.ends
-
 -- its reply was sent
 pub record AnswersFrame (number : ℕ) (past : List Command) (frame : List ℕ) (old new : List Made)
     (old_points new_points : List ℕ) (before now : SeenLink) : Type 0 where
   pub reply : BoardReply
   pub taken : HasTaken number past frame old new old_points new_points reply
-  pub none : TakesNothing before now
-  pub sent : now.sent ≡ sent_with before.sent (reply_frame reply)
+  pub says : Says (reply_frame reply) before now
 
 -- the link couldn't send it
 pub record LosesReply (number : ℕ) (past : List Command) (frame : List ℕ) (old new : List Made)
     (old_points new_points : List ℕ) (before now : SeenLink) : Type 0 where
   pub reply : BoardReply
   pub taken : HasTaken number past frame old new old_points new_points reply
-  pub none : TakesNothing before now
-  pub sent : SendsPrefix before.sent (reply_frame reply) now.sent
+  pub part : SaysPart (reply_frame reply) before now
   pub rose : Rises before.faults now.faults
 
 -- nothing was said, and no point was kept
@@ -104,30 +96,22 @@ StopsFrame number past frame place old new old_points new_points before now end.
 
 -- ---- a session while it goes on
 
--- the link gave these bytes, and each of these frames was answered, as an exchange
-pub record SoFar (number : ℕ) (past : List Command) (calls : List Made) (before now : SeenLink) (points : List ℕ)
-    (given : List ℕ) (frames : List (List ℕ))
-    (exchanges : List Exchange) : Type 0 where
-  pub came : before.left ≡ left_before given now.left
+-- these frames were read as the requests of these exchanges, each of which was answered, and these calls were made
+-- besides
+pub record SoFar (number : ℕ) (past : List Command) (calls : List Made) (points : List ℕ) (frames : List (List ℕ))
+    (exchanges : List Exchange) (more : List Made) : Type 0 where
   pub read : AreRead frames exchanges
   pub points_are : points ≡ points_of exchanges
   pub rising : NeverFall number (followed_by past calls) (length past) exchanges
-  pub sent : now.sent ≡ sent_with before.sent (told_all (followed_by past calls) exchanges)
-  pub made : MadeBy number (followed_by past calls) (length past) calls exchanges []
-  pub faults : before.faults ≤ now.faults
-  pub ends : before.ends ≤ now.ends
+  pub made : MadeBy number (followed_by past calls) (length past) calls exchanges more
 
--- every frame that was taken was answered, and the next one stands at this place
+-- every frame that was taken was answered, and the next one stands at its place
 pub record HasAnsweredAll (number : ℕ) (past : List Command) (calls : List Made) (before now : SeenLink)
-    (points : List ℕ) (kept : KeptFrames) (place : ℕ)
-    (refused : Option ℕ) : Type 0 where
-  pub given : List ℕ
+    (points : List ℕ) (incoming : Incoming) : Type 0 where
   pub taken : List (List ℕ)
   pub exchanges : List Exchange
-  pub so_far : SoFar number past calls before now points given taken exchanges
-  pub keeps : KeepsStream kept given taken
-  pub is_known : IsKnown kept refused
-  pub is_place : place ≡ counted (length (joined taken))
+  pub so_far : SoFar number past calls points taken exchanges []
+  pub stands : Stands before now taken (replies (followed_by past calls) exchanges) incoming
 
 -- the session is over, and ended so
 abbrev pub IsOver : ℕ → List Command → List Made → SeenLink → SeenLink → List ℕ → SessionEnd → Type 0

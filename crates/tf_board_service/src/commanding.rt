@@ -120,7 +120,7 @@ fn accept_and_serve<K: Desk + Send, D: Door, R: Threads + Wait + Sync>(
 fn accept_all<D: Door>(alloc: Global, count: u8, door: &mut D) -> Result<Vec<D::Made>, PortFault>
     ensures many { IfOk result (λ links. vec_len links ≡ count) }
     ensures gave { IfOk result (λ links. D.told door.new ≡ gave_links (D.told door.old)
-        (map (seen_link D.Made.left D.Made.sent D.Made.faults D.Made.ends) links.items)) }
+        (map (seen_link D.Made.left D.Made.transcript D.Made.faults D.Made.ends) links.items)) }
     ensures vain { IfErr result (λ fault. GivesInVain count (D.told door.old) (D.told door.new)
         (fault ≡ PortFault.Failed)) }
     ensures cause { IfErr result (λ fault. fault ≡ PortFault.Failed
@@ -146,7 +146,7 @@ fn accept_all<D: Door>(alloc: Global, count: u8, door: &mut D) -> Result<Vec<D::
 
 /// Gives links back. `Err`: memory ran out for one, and all are closed all the same.
 fn give_back<D: Door>(links: Vec<D::Made>, door: &mut D) -> Result<(), Memory>
-    ensures back { GivesBack (map (seen_link D.Made.left D.Made.sent D.Made.faults D.Made.ends) links.items)
+    ensures back { GivesBack (map (seen_link D.Made.left D.Made.transcript D.Made.faults D.Made.ends) links.items)
         (D.told door.old) (D.told door.new) result }
     ensures door { D.faults door.old ≤ D.faults door.new }
 {
@@ -172,7 +172,7 @@ fn serve_over<K: Desk + Send, D: Door, R: Threads + Wait + Sync>(
     ensures serves { (name : List ℕ) (address : AnAddress) (before : DoorTold) (entry seen : K)
         → IsOpened K.state name (told_as (K.state seen) (K.state entry)) board
         → D.told door.old ≡ gave_links (opened_at before address)
-        (map (seen_link D.Made.left D.Made.sent D.Made.faults D.Made.ends) links.items)
+        (map (seen_link D.Made.left D.Made.transcript D.Made.faults D.Made.ends) links.items)
         → ServesBoard name address (vec_len links) before (D.told door.new)
         (told_as (K.state seen) (K.state entry)) (K.state result.0) result.1 }
     ensures causes { (name : List ℕ) (entry seen : K)

@@ -106,15 +106,16 @@ pub(crate) fn serve_all<K: Desk + Send, L: Link + Send, T: Threads + Wait + Sync
         → IsAppointed turnstile.now i (slice_index_or servers.old i d).pass }
     requires points { All (λ w. w.points.items ≡ []) servers.old }
     ensures { (i : ℕ) (d : _) → i < length servers.old
-        → HasServed turnstile.now i (seen_link L.left L.sent L.faults L.ends (slice_index_or servers.old i d).link)
-        (seen_link L.left L.sent L.faults L.ends (slice_index_or servers.new i d).link)
+        → HasServed turnstile.now i
+        (seen_link L.left L.transcript L.faults L.ends (slice_index_or servers.old i d).link)
+        (seen_link L.left L.transcript L.faults L.ends (slice_index_or servers.new i d).link)
         (slice_index_or servers.new i d).points.items (slice_index_or servers.new i d).end
         (slice_index_or servers.new i d).pass }
 {
     let turns = |i: usize, server: &mut Server<K, L>|
         requires { IsAppointed turnstile.now i server.now.pass × (server.now.points.items ≡ []) }
-        ensures { HasServed turnstile.entry.now i (seen_link L.left L.sent L.faults L.ends server.entry.now.link)
-            (seen_link L.left L.sent L.faults L.ends server.exit.now.link) server.exit.now.points.items
+        ensures { HasServed turnstile.entry.now i (seen_link L.left L.transcript L.faults L.ends server.entry.now.link)
+            (seen_link L.left L.transcript L.faults L.ends server.exit.now.link) server.exit.now.points.items
             server.exit.now.end server.exit.now.pass }
     { serve(rt, alloc, turnstile, server, i as u8) };
     thread::for_each_mut(rt, servers, THREADS, &turns);
@@ -132,8 +133,9 @@ pub(crate) fn serve_through<K: Desk + Send, L: Link + Send, T: Threads + Wait + 
     requires points { All (λ w. w.points.items ≡ []) servers.items }
     ensures count { length result.items ≡ length servers.items }
     ensures served { (i : ℕ) (d : _) → i < length servers.items
-        → HasServed turnstile.now i (seen_link L.left L.sent L.faults L.ends (slice_index_or servers.items i d).link)
-        (seen_link L.left L.sent L.faults L.ends (slice_index_or result.items i d).link)
+        → HasServed turnstile.now i
+        (seen_link L.left L.transcript L.faults L.ends (slice_index_or servers.items i d).link)
+        (seen_link L.left L.transcript L.faults L.ends (slice_index_or result.items i d).link)
         (slice_index_or result.items i d).points.items (slice_index_or result.items i d).end
         (slice_index_or result.items i d).pass }
 {

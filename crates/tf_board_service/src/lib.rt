@@ -4,7 +4,6 @@
 mod answering;
 mod commanding;
 mod hiring;
-mod incoming;
 mod lines;
 mod printing;
 mod replies;

@@ -61,7 +61,7 @@ fn serve_links<K: Desk + Send, L: Link + Send, T: Threads + Wait + Sync>(
     requires room { (room.items ≡ []) × (vec_len links.old ≤ vec_capacity room) }
     requires back { (back.items ≡ []) × (vec_len links.old ≤ vec_capacity back) }
     requires sessions { (sessions.items ≡ []) × (vec_len links.old ≤ vec_capacity sessions) }
-    ensures { AreServed K.state L.left L.sent L.faults L.ends turnstile.start.begun result.shared
+    ensures { AreServed K.state L.left L.transcript L.faults L.ends turnstile.start.begun result.shared
         links.old.items links.new.items result.sessions }
 {
     let mut back = back;
@@ -92,8 +92,8 @@ pub fn serve_board<K: Desk + Send, L: Link + Send, T: Threads + Wait + Sync>(
     ensures legal { IfOk result (λ served. AreOfBoard served.shared.board.past) }
     ensures each { IfOk result (λ served. (i : ℕ) (d : L) (s : ASession) → i < vec_len links.old
         → IsServed i (length shared.board.past) served.shared.board.past (made_since shared served.shared)
-        (seen_link L.left L.sent L.faults L.ends (slice_index_or links.old.items i d))
-        (seen_link L.left L.sent L.faults L.ends (slice_index_or links.new.items i d))
+        (seen_link L.left L.transcript L.faults L.ends (slice_index_or links.old.items i d))
+        (seen_link L.left L.transcript L.faults L.ends (slice_index_or links.new.items i d))
         (slice_index_or served.sessions i s)) }
     ensures numbers { IfOk result (λ served. All (λ m. m.number < vec_len links.old)
         (made_since shared served.shared)) }

@@ -2,12 +2,11 @@
 ghost use Rattle.std.specs.Prelude.{◌≡◌, [], OnOk, IfErr, IfSome, MatchResult};
 ghost use Rattle.tf_turnstile.specs.Passes.{IsIdle, new_pass};
 ghost use Rattle.tf_ports.specs.Ports.{SeenLink, seen_link};
-ghost use Rattle.tf_board_service.specs.Sessions.{reply_frame};
+ghost use Rattle.tf_board_service.specs.Sessions.{reply_frame, talk_end};
 ghost use Rattle.tf_board_service.specs.Printing.{HasFewLines};
 ghost use Rattle.tf_board_service.specs.Turning.{HasServed, IsFresh, seen_calls, start_past};
 ghost use Rattle.tf_board_service.specs.Turns.{AnswersFrame, HasAnsweredAll, HasWaited, IsOver, KnowsTurn, StopsFrame};
 
-use crate::incoming::Incoming;
 use crate::printing::print_reply;
 use crate::replies::BoardReply;
 use crate::requests::read_board_request;
@@ -18,6 +17,7 @@ use std::sync::Wait;
 use tf_board::BoardRequest;
 use tf_desk::Desk;
 use tf_ports::Link;
+use tf_sessions::{Incoming, ServeEnd};
 use tf_turnstile::{Pass, Turnstile};
 
 /// A link with its pass, the points at which its requests were answered, and how its session ended.
@@ -103,13 +103,13 @@ fn answer_frame<K: Desk, L: Link, T: Wait>(
     ensures answered { OnOk result (AnswersFrame number (start_past turnstile.now) frame.now
         (seen_calls server.old.pass) (seen_calls server.new.pass)
         server.old.points.items server.new.points.items
-        (seen_link L.left L.sent L.faults L.ends server.old.link)
-        (seen_link L.left L.sent L.faults L.ends server.new.link)) }
+        (seen_link L.left L.transcript L.faults L.ends server.old.link)
+        (seen_link L.left L.transcript L.faults L.ends server.new.link)) }
     ensures stopped { IfErr result (StopsFrame number (start_past turnstile.now) frame.now place
         (seen_calls server.old.pass) (seen_calls server.new.pass)
         server.old.points.items server.new.points.items
-        (seen_link L.left L.sent L.faults L.ends server.old.link)
-        (seen_link L.left L.sent L.faults L.ends server.new.link)) }
+        (seen_link L.left L.transcript L.faults L.ends server.old.link)
+        (seen_link L.left L.transcript L.faults L.ends server.new.link)) }
 {
     let Ok(read) = read_board_request(alloc, frame) else {
         return Err(SessionEnd::Halted);
@@ -134,6 +134,18 @@ fn answer_frame<K: Desk, L: Link, T: Wait>(
     }
 }
 
+/// How a session ends whose link gives nothing more.
+fn session_end(end: ServeEnd) -> SessionEnd
+    ensures { talk_end result ≡ end }
+{
+    match end {
+        ServeEnd::Ended => SessionEnd::Ended,
+        ServeEnd::Lost => SessionEnd::Lost,
+        ServeEnd::Bad { at } => SessionEnd::Bad { at },
+        ServeEnd::Memory => SessionEnd::Halted,
+    }
+}
+
 /// Answers the first frame that waits, or else takes in what comes next.
 fn go_on<K: Desk, L: Link, T: Wait>(
     rt: &T,
@@ -148,22 +160,24 @@ fn go_on<K: Desk, L: Link, T: Wait>(
     ensures idle { IsIdle turnstile.now number server.new.pass }
     ensures goes { (before : SeenLink)
         → HasAnsweredAll number (start_past turnstile.now) (seen_calls server.old.pass) before
-        (seen_link L.left L.sent L.faults L.ends server.old.link) server.old.points.items
-        incoming.old.frames incoming.old.place incoming.old.refused
+        (seen_link L.left L.transcript L.faults L.ends server.old.link) server.old.points.items
+        incoming.old
         → MatchResult result
         (λ _. HasAnsweredAll number (start_past turnstile.now) (seen_calls server.new.pass) before
-        (seen_link L.left L.sent L.faults L.ends server.new.link) server.new.points.items
-        incoming.new.frames incoming.new.place incoming.new.refused)
+        (seen_link L.left L.transcript L.faults L.ends server.new.link) server.new.points.items
+        incoming.new)
         (IsOver number (start_past turnstile.now) (seen_calls server.new.pass) before
-        (seen_link L.left L.sent L.faults L.ends server.new.link) server.new.points.items) }
+        (seen_link L.left L.transcript L.faults L.ends server.new.link) server.new.points.items) }
 {
     let Some(frame) = incoming.frames.take_frame() else {
-        return incoming.receive(alloc, &mut server.link);
+        return match incoming.receive(alloc, &mut server.link) {
+            Ok(()) => Ok(()),
+            Err(end) => Err(session_end(end)),
+        };
     };
     match answer_frame(rt, alloc, turnstile, server, number, incoming.place, &frame) {
         Ok(()) => {
-            let behind_length = incoming.place.saturating_add(4);
-            incoming.place = behind_length.saturating_add(frame.len() as u64);
+            incoming.pass(frame.len());
             Ok(())
         }
         Err(end) => Err(end),
@@ -205,8 +219,8 @@ pub(crate) fn serve<K: Desk, L: Link, T: Wait>(
     requires fresh { IsFresh turnstile.now }
     requires made { server.old.pass ≡ new_pass turnstile.now number }
     requires points { server.old.points.items ≡ [] }
-    ensures { HasServed turnstile.now number (seen_link L.left L.sent L.faults L.ends server.old.link)
-        (seen_link L.left L.sent L.faults L.ends server.new.link) server.new.points.items server.new.end
+    ensures { HasServed turnstile.now number (seen_link L.left L.transcript L.faults L.ends server.old.link)
+        (seen_link L.left L.transcript L.faults L.ends server.new.link) server.new.points.items server.new.end
         server.new.pass }
 {
     let mut incoming = Incoming::make(alloc);

@@ -27,7 +27,7 @@ struct WaitingLink {
 impl Link for WaitingLink {
     ghost left = { λ _. None };
 
-    ghost sent = { λ _. None };
+    ghost transcript = { λ link. link.link.transcript };
 
     ghost faults = { λ link. link.link.faults };
 

@@ -7,7 +7,7 @@ use Rattle.tf_board_service.proofs.commanding.accept_all.Goals as goal
 
 pub loop-taken-init : goal.loop-taken-init
 loop-taken-init g c =
-    let see = seen_link g.D.Made.Link.left g.D.Made.Link.sent g.D.Made.Link.faults g.D.Made.Link.ends in
+    let see = seen_link g.D.Made.Link.left g.D.Made.Link.transcript g.D.Made.Link.faults g.D.Made.Link.ends in
     let old = g.D.Door.told c.args.door.now in
     record {
       many = omega (arith, ap length c.in-Ok.ensures.items);
@@ -18,7 +18,7 @@ loop-taken-init g c =
 
 pub loop-taken-preserved : goal.loop-taken-preserved
 loop-taken-preserved g c =
-    let see = seen_link g.D.Made.Link.left g.D.Made.Link.sent g.D.Made.Link.faults g.D.Made.Link.ends in
+    let see = seen_link g.D.Made.Link.left g.D.Made.Link.transcript g.D.Made.Link.faults g.D.Made.Link.ends in
     let i = c.loop-taken.invariant in
     let old = g.D.Door.told c.args.door.now in
     record {

@@ -7,6 +7,6 @@ abbrev pub invariant-loop-taken : goal.invariant-loop-taken
 invariant-loop-taken g l = record {
   many : vec_len l.links ≡ l._taken;
   room : vec_capacity l.links ≡ vec_capacity l.initial.links;
-  gave : g.D.Door.told l.door ≡ gave_links (g.D.Door.told l.fn.door) (map (seen_link g.D.Made.Link.left g.D.Made.Link.sent g.D.Made.Link.faults g.D.Made.Link.ends) l.links.items);
+  gave : g.D.Door.told l.door ≡ gave_links (g.D.Door.told l.fn.door) (map (seen_link g.D.Made.Link.left g.D.Made.Link.transcript g.D.Made.Link.faults g.D.Made.Link.ends) l.links.items);
   faults : g.D.Door.faults l.fn.door ≤ g.D.Door.faults l.door;
 }

@@ -11,7 +11,7 @@ use Rattle.tf_report.specs.Closing.{cannot_listen}
 
 pub returns-in-Ok-clause-serves : goal.returns-in-Ok-clause-serves
 returns-in-Ok-clause-serves g c = λ name address before entry seen o opened.
-    let links = map (seen_link g.D.Made.Link.left g.D.Made.Link.sent g.D.Made.Link.faults g.D.Made.Link.ends) c.in-Ok.links.items in
+    let links = map (seen_link g.D.Made.Link.left g.D.Made.Link.transcript g.D.Made.Link.faults g.D.Made.Link.ends) c.in-Ok.links.items in
     subst (λ (n : ℕ). ServesBoard name address n before (g.D.Door.told c.serve_over.new.door) (told_as (g.K.Desk.state seen) (g.K.Desk.state entry)) (g.K.Desk.state c.serve_over.result.0) c.serve_over.result.1) c.in-Ok.ensures.many
     (c.serve_over.ensures.serves name address before entry seen o (c.in-Ok.ensures.gave ∙ ap (λ (d : DoorTold). gave_links d links) opened))
 

@@ -11,7 +11,7 @@ loop-link-init g c = record { back = back_none (g.D.Door.told c.args.door.now); 
 
 pub loop-link-preserved : goal.loop-link-preserved
 loop-link-preserved g c =
-    let see = seen_link g.D.Made.Link.left g.D.Made.Link.sent g.D.Made.Link.faults g.D.Made.Link.ends in
+    let see = seen_link g.D.Made.Link.left g.D.Made.Link.transcript g.D.Made.Link.faults g.D.Made.Link.ends in
     let i = c.loop-link.invariant in
     record {
       back = subst (λ (l : List SeenLink). GivesBack l (g.D.Door.told c.args.door.now) (g.D.Door.told c.close.new.self) c.loop-link.whole) (sym (map-append see c.loop-link.yielded (c.in-Some.link ∷ [])))
@@ -21,7 +21,7 @@ loop-link-preserved g c =
 
 pub loop-link-preserved-in-Err : goal.loop-link-preserved-in-Err
 loop-link-preserved-in-Err g c =
-    let see = seen_link g.D.Made.Link.left g.D.Made.Link.sent g.D.Made.Link.faults g.D.Made.Link.ends in
+    let see = seen_link g.D.Made.Link.left g.D.Made.Link.transcript g.D.Made.Link.faults g.D.Made.Link.ends in
     let i = c.loop-link.invariant in
     record {
       back = subst (λ (l : List SeenLink). GivesBack l (g.D.Door.told c.args.door.now) (g.D.Door.told c.close.new.self) (Err c.in-Err.fault)) (sym (map-append see c.loop-link.yielded (c.in-Some.link ∷ [])))

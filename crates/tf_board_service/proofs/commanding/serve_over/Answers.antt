@@ -15,7 +15,7 @@ use Rattle.tf_shared_board.specs.Shared.{halt_status}
 pub returns-in-Ok-whole-clause-serves : goal.returns-in-Ok-whole-clause-serves
 returns-in-Ok-whole-clause-serves g c = λ name address before entry seen o gave.
     let D = g.K.Desk in
-    let see = seen_link g.D.Made.Link.left g.D.Made.Link.sent g.D.Made.Link.faults g.D.Made.Link.ends in
+    let see = seen_link g.D.Made.Link.left g.D.Made.Link.transcript g.D.Made.Link.faults g.D.Made.Link.ends in
     let met = g.met.K.Desk g.world.𝓛 g.world.𝓜 g.world.𝓡 ((λ s x. x), (λ x. x), (λ x. x), λ x. x) in
     let laws : KeepsLaws D.state =
     record { tells_shown = met.tells_shown; picked_is_there = met.picked_is_there; reads_left = met.reads_left; counts_now = met.counts_now; only_now = met.only_now } in
@@ -37,7 +37,7 @@ returns-in-Ok-whole-clause-serves g c = λ name address before entry seen o gave
 pub returns-in-Ok-clause-serves : goal.returns-in-Ok-clause-serves
 returns-in-Ok-clause-serves g c = λ name address before entry seen o gave.
     let D = g.K.Desk in
-    let see = seen_link g.D.Made.Link.left g.D.Made.Link.sent g.D.Made.Link.faults g.D.Made.Link.ends in
+    let see = seen_link g.D.Made.Link.left g.D.Made.Link.transcript g.D.Made.Link.faults g.D.Made.Link.ends in
     let met = g.met.K.Desk g.world.𝓛 g.world.𝓜 g.world.𝓡 ((λ s x. x), (λ x. x), (λ x. x), λ x. x) in
     let laws : KeepsLaws D.state =
     record { tells_shown = met.tells_shown; picked_is_there = met.picked_is_there; reads_left = met.reads_left; counts_now = met.counts_now; only_now = met.only_now } in
@@ -52,7 +52,7 @@ returns-in-Ok-clause-serves g c = λ name address before entry seen o gave.
 pub returns-in-Ok-whole-clause-causes : goal.returns-in-Ok-whole-clause-causes
 returns-in-Ok-whole-clause-causes g c = λ name entry seen o.
     let D = g.K.Desk in
-    let see = seen_link g.D.Made.Link.left g.D.Made.Link.sent g.D.Made.Link.faults g.D.Made.Link.ends in
+    let see = seen_link g.D.Made.Link.left g.D.Made.Link.transcript g.D.Made.Link.faults g.D.Made.Link.ends in
     let met = g.met.K.Desk g.world.𝓛 g.world.𝓜 g.world.𝓡 ((λ s x. x), (λ x. x), (λ x. x), λ x. x) in
     let laws : KeepsLaws D.state =
     record { tells_shown = met.tells_shown; picked_is_there = met.picked_is_there; reads_left = met.reads_left; counts_now = met.counts_now; only_now = met.only_now } in
@@ -73,7 +73,7 @@ returns-in-Ok-whole-clause-causes g c = λ name entry seen o.
 pub returns-in-Ok-clause-causes : goal.returns-in-Ok-clause-causes
 returns-in-Ok-clause-causes g c = λ name entry seen o.
     let D = g.K.Desk in
-    let see = seen_link g.D.Made.Link.left g.D.Made.Link.sent g.D.Made.Link.faults g.D.Made.Link.ends in
+    let see = seen_link g.D.Made.Link.left g.D.Made.Link.transcript g.D.Made.Link.faults g.D.Made.Link.ends in
     let met = g.met.K.Desk g.world.𝓛 g.world.𝓜 g.world.𝓡 ((λ s x. x), (λ x. x), (λ x. x), λ x. x) in
     let laws : KeepsLaws D.state =
     record { tells_shown = met.tells_shown; picked_is_there = met.picked_is_there; reads_left = met.reads_left; counts_now = met.counts_now; only_now = met.only_now } in
@@ -86,7 +86,7 @@ returns-in-Ok-clause-causes g c = λ name entry seen o.
 pub returns-clause-serves : goal.returns-clause-serves
 returns-clause-serves g c = λ name address before entry seen o gave.
     let D = g.K.Desk in
-    let see = seen_link g.D.Made.Link.left g.D.Made.Link.sent g.D.Made.Link.faults g.D.Made.Link.ends in
+    let see = seen_link g.D.Made.Link.left g.D.Made.Link.transcript g.D.Made.Link.faults g.D.Made.Link.ends in
     let m = c.in-Err.ensures.memory in
     vain_over D.state name (told_as (D.state seen) (D.state entry)) c.args.board o c.close-in-Err-2.result
     (c.close-in-Err-2.ensures ∙ ap (λ b. b.journal.desk) (c.close-in-Err.ensures.board ∙ ap (λ s. s.board) (m.0 ∙ c.make-shared.ensures)))

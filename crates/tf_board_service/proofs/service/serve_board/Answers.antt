@@ -9,8 +9,8 @@ pub returns-in-Ok-make-clause-each : goal.returns-in-Ok-make-clause-each
 returns-in-Ok-make-clause-each g c =
     let start : c.in-Ok-make.turnstile.start ≡ c.begin.result = cc (c.in-Ok-make.ensures.made.0, c.in-Ok-make.turnstile-is) in
     let begun : c.in-Ok-make.turnstile.start.begun ≡ c.args.shared = ap (λ (v : ServingValue g.row.K.Denot). v.begun) (start ∙ c.begin.ensures) in
-    let s : AreServed g.K.Desk.state g.L.Link.left g.L.Link.sent g.L.Link.faults g.L.Link.ends c.args.shared c.serve_links.result.shared c.args.links.now.items c.serve_links.new.links.items c.serve_links.result.sessions
-    = subst (λ (b : SharedValue g.row.K.Denot). AreServed g.K.Desk.state g.L.Link.left g.L.Link.sent g.L.Link.faults g.L.Link.ends b c.serve_links.result.shared c.args.links.now.items c.serve_links.new.links.items c.serve_links.result.sessions) begun c.serve_links.ensures in
+    let s : AreServed g.K.Desk.state g.L.Link.left g.L.Link.transcript g.L.Link.faults g.L.Link.ends c.args.shared c.serve_links.result.shared c.args.links.now.items c.serve_links.new.links.items c.serve_links.result.sessions
+    = subst (λ (b : SharedValue g.row.K.Denot). AreServed g.K.Desk.state g.L.Link.left g.L.Link.transcript g.L.Link.faults g.L.Link.ends b c.serve_links.result.shared c.args.links.now.items c.serve_links.new.links.items c.serve_links.result.sessions) begun c.serve_links.ensures in
     λ i d e below. s.each i d e (omega (arith, below, c.args.links.now.ok.0))
 
 pub returns-in-Ok-make-clause-numbers : goal.returns-in-Ok-make-clause-numbers
