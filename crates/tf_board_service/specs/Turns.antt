@@ -4,7 +4,7 @@ use Rattle.std.specs.Prelude.{◌≡◌, ◌≢◌, ◌⊎◌, ℕ, List, [], �
 use Rattle.std.specs.List.{AllByRecursion}
 use Rattle.tf_numbers.specs.Numbers.{Rises}
 use Rattle.tf_ports.specs.Ports.{SeenLink}
-use Rattle.tf_sessions.specs.Talks.{Stands, Says, SaysPart}
+use Rattle.tf_sessions.specs.Talks.{Stands, SendsAll, SendsPart}
 use Rattle.tf_sessions.specs.declared.incoming.Incoming.{Incoming}
 use Rattle.tf_board.specs.declared.commands.Command.{Command}
 use Rattle.tf_shared_board.specs.Shared.{followed_by}
@@ -62,14 +62,14 @@ pub record AnswersFrame (number : ℕ) (past : List Command) (frame : List ℕ) 
     (old_points new_points : List ℕ) (before now : SeenLink) : Type 0 where
   pub reply : BoardReply
   pub taken : HasTaken number past frame old new old_points new_points reply
-  pub says : Says (reply_frame reply) before now
+  pub says : SendsAll (reply_frame reply) before now
 
 -- the link couldn't send it
 pub record LosesReply (number : ℕ) (past : List Command) (frame : List ℕ) (old new : List Made)
     (old_points new_points : List ℕ) (before now : SeenLink) : Type 0 where
   pub reply : BoardReply
   pub taken : HasTaken number past frame old new old_points new_points reply
-  pub part : SaysPart (reply_frame reply) before now
+  pub part : SendsPart (reply_frame reply) before now
   pub rose : Rises before.faults now.faults
 
 -- nothing was said, and no point was kept

@@ -1,6 +1,6 @@
 ghost use Rattle.std.specs.Prelude.{◌≡◌, ◌<◌, ◌≤◌, [], ◌++◌, drop, take, length, vec_len, Some, OnOk, OnErr};
 ghost use Rattle.tf_numbers.specs.Numbers.{Rises};
-ghost use Rattle.tf_ports.specs.Transcript.{sent_with, SendsPrefix};
+ghost use Rattle.tf_ports.specs.Transcript.{sent_with};
 
 use crate::links::{Came, Link, LinkFault};
 use std::alloc::Global;

@@ -1,5 +1,5 @@
 -- A session one step further, and how it is over.
-use Rattle.std.proofs.Common.{◌≡◌, ◌≢◌, ℕ, ◌+◌, ◌<◌, ◌≤◌, List, [], ◌∷◌, ◌++◌, length, take, map, Option, Some, None, inl, inr, refl, sym, ap, ◌∙◌, subst, arith, append_assoc, append-nil, length-append}
+use Rattle.std.proofs.Common.{◌≡◌, ℕ, ◌+◌, ◌<◌, ◌≤◌, List, [], ◌∷◌, ◌++◌, length, take, map, Option, Some, None, inl, inr, refl, sym, ap, ◌∙◌, subst, arith, append_assoc, append-nil, length-append}
 use Rattle.std.proofs.lemmas.Grind.{flat_map-append}
 use Rattle.std.proofs.lemmas.List.{take_all, take-append-le}
 use Rattle.std.proofs.Math.Seq.{take-append-add}
@@ -7,15 +7,15 @@ use Rattle.tf_numbers.specs.Numbers.{Rises}
 use Rattle.tf_ports.specs.Ports.{SeenLink, left_before}
 use Rattle.tf_ports.specs.Transcript.{Passed, sent_with, received_with, received_in, sent_in}
 use Rattle.tf_ports.specs.Transcript.Passed.{received, sent_byte}
-use Rattle.tf_ports.proofs.TranscriptLemmas.{received_with_sent, sent_with_sent, received_with_received, sent_with_received, held_with_sent, held_with_received, held_so, sent_none}
-use Rattle.tf_wire.specs.Stream.{KeptFrames, counted, KeepsStream, framed, joined, SplitsInto, BeginsWithFrame, BeginsWithBadLength}
+use Rattle.tf_ports.proofs.TranscriptLemmas.{received_with_sent, sent_with_sent, received_with_received, sent_with_received, held_with_sent, held_with_received, held_so}
+use Rattle.tf_wire.specs.Stream.{KeptFrames, counted, KeepsStream, framed, joined, SplitsInto, BeginsWithFrame}
 use Rattle.tf_wire.proofs.StreamLemmas.{bad_stays, cut_on, short_is_no_frame, short_is_no_bad_length}
-use Rattle.tf_sessions.specs.Receiving.{IsKnown, BringsPiece, IsStill, IsAtEnd, TakesIn, HasNothingMore}
-use Rattle.tf_sessions.specs.Talks.{all_said, AllAnswered, AnswersFirst, Says, SaysPart, Stands, Talk, TalkEndsAs, BeginsWithFrameSo}
+use Rattle.tf_sessions.specs.Receiving.{IsKnown, IsStill, TakesIn, HasNothingMore}
+use Rattle.tf_sessions.specs.Talks.{all_said, AllAnswered, AnswersFirst, SendsAll, SendsPart, Stands, Talk, TalkEndsAs}
 use Rattle.tf_sessions.specs.declared.incoming.Incoming.{Incoming}
 use Rattle.tf_sessions.specs.declared.incoming.ServeEnd.{ServeEnd}
 use Rattle.tf_sessions.specs.declared.incoming.ServeEnd.TheVariants as end
-use Rattle.tf_sessions.proofs.FrameLemmas.{behind_of, cut_of, cut_rest, cut_bad, known_taken, place_more, Taking, Next, next_of}
+use Rattle.tf_sessions.proofs.FrameLemmas.{behind_of, cut_of, cut_rest, cut_bad, known_taken, place_more, Taking, next_of}
 
 -- ---- counts
 
@@ -136,7 +136,7 @@ module _ (before now after : SeenLink) (frames replies : List (List ℕ)) where
 
   -- one frame more was taken and answered
   pub stands_answered : (old new : Incoming) (frame reply : List ℕ) → Taking old.frames new.frames frame → new.refused ≡ old.refused → new.place ≡ counted (counted (old.place + 4) + length frame)
-      → Says reply now after → Stands before now frames replies old → Stands before after (frames ++ frame ∷ []) (replies ++ reply ∷ []) new
+      → SendsAll reply now after → Stands before now frames replies old → Stands before after (frames ++ frame ∷ []) (replies ++ reply ∷ []) new
   stands_answered old new frame reply taking free place says on = record {
     passed = sent_with on.passed reply;
     went = says.passed ∙ ap (λ (t : List Passed). sent_with t reply) on.went ∙ append_assoc before.transcript on.passed (map sent_byte reply);
@@ -170,7 +170,7 @@ module _ (before now after : SeenLink) (frames replies : List (List ℕ)) where
 
   -- with a part of what was said last: these frames and replies, of which the others are the first, and what was begun
   abbrev pub talk_part : (incoming : Incoming) (later said : List (List ℕ)) (begun bytes behind : List ℕ) (on : Stands before now frames replies incoming) → SplitsInto (received_in on.passed) later behind
-      → AnswersFirst later said on.passed → all_said replies ++ bytes ≡ all_said said ++ begun → SaysPart bytes now after → Talk before after later said begun
+      → AnswersFirst later said on.passed → all_said replies ++ bytes ≡ all_said said ++ begun → SendsPart bytes now after → Talk before after later said begun
   talk_part incoming later said begun bytes behind on cut first same part =
       let k = part.passed.count in
       let some = take k bytes in record {
@@ -189,13 +189,13 @@ module _ (before now after : SeenLink) (frames replies : List (List ℕ)) where
       }
 
   -- a frame was taken whose reply was begun
-  abbrev pub talk_begun : (old new : Incoming) (frame begun : List ℕ) (taking : Taking old.frames new.frames frame) (on : Stands before now frames replies old) → SaysPart begun now after → Talk before after frames replies begun
+  abbrev pub talk_begun : (old new : Incoming) (frame begun : List ℕ) (taking : Taking old.frames new.frames frame) (on : Stands before now frames replies old) → SendsPart begun now after → Talk before after frames replies begun
   talk_begun old new frame begun taking on part =
       let next = next_of old.frames new.frames frame (received_in on.passed) frames taking.is on.keeps in
       talk_part old frames replies begun begun (framed frame ++ next.behind) on next.cut on.answers_first refl part
 
   -- a frame was taken, and a part of its reply was sent
-  abbrev pub talk_replied : (old new : Incoming) (frame reply : List ℕ) (taking : Taking old.frames new.frames frame) (on : Stands before now frames replies old) → SaysPart reply now after → Talk before after (frames ++ frame ∷ []) (replies ++ reply ∷ []) []
+  abbrev pub talk_replied : (old new : Incoming) (frame reply : List ℕ) (taking : Taking old.frames new.frames frame) (on : Stands before now frames replies old) → SendsPart reply now after → Talk before after (frames ++ frame ∷ []) (replies ++ reply ∷ []) []
   talk_replied old new frame reply taking on part =
       let keeps = taking.keeps (received_in on.passed) frames on.keeps in
       talk_part old (frames ++ frame ∷ []) (replies ++ reply ∷ []) [] reply (behind_of new.frames (received_in on.passed) (frames ++ frame ∷ []) keeps) on (cut_of new.frames (received_in on.passed) (frames ++ frame ∷ []) keeps)

@@ -1,5 +1,5 @@
 -- What passed over the link of a session: the frames that came, and the replies that were sent.
-use Rattle.std.specs.Prelude.{◌≡◌, ◌≢◌, ◌⊎◌, ℕ, ◌≤◌, List, [], ◌++◌, length, take, Option}
+use Rattle.std.specs.Prelude.{◌≡◌, ◌≢◌, ◌⊎◌, ℕ, ◌≤◌, List, [], ◌++◌, length, take}
 use Rattle.std.specs.List.{flat_map}
 use Rattle.tf_numbers.specs.Numbers.{Rises}
 use Rattle.tf_ports.specs.Ports.{SeenLink, left_before, IsNothingLeft}
@@ -31,14 +31,14 @@ AnswersFirst frames replies passed = HeldBefore (AllAnswered frames replies) [] 
 -- ---- one step
 
 -- these bytes were sent, and nothing came
-pub record Says (bytes : List ℕ) (before now : SeenLink) : Type 0 where
+pub record SendsAll (bytes : List ℕ) (before now : SeenLink) : Type 0 where
   pub left : now.left ≡ before.left
   pub passed : now.transcript ≡ sent_with before.transcript bytes
   pub faults : before.faults ≤ now.faults
   pub ends : before.ends ≤ now.ends
 
 -- a prefix of these bytes was sent, and nothing came
-pub record SaysPart (bytes : List ℕ) (before now : SeenLink) : Type 0 where
+pub record SendsPart (bytes : List ℕ) (before now : SeenLink) : Type 0 where
   pub left : now.left ≡ before.left
   pub passed : SendsPrefix before.transcript bytes now.transcript
   pub faults : before.faults ≤ now.faults

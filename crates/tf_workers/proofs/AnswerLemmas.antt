@@ -6,7 +6,7 @@ use Rattle.tf_ports.proofs.TranscriptLemmas.{sent_more, prefix_more_sent, whole_
 use Rattle.tf_actions.specs.Gives.{told_with}
 use Rattle.tf_actions.specs.declared.orders.Order.{Order}
 use Rattle.tf_actions.specs.declared.outcomes.Outcome.{Outcome}
-use Rattle.tf_sessions.specs.Talks.{Says, SaysPart}
+use Rattle.tf_sessions.specs.Talks.{SendsAll, SendsPart}
 use Rattle.tf_sessions.proofs.TalkLemmas.{le_on}
 use Rattle.tf_workers.specs.Session.{Exchange, order_asked, Seen, did_with, MayBeGiven}
 use Rattle.tf_workers.specs.Progress.{HasComeTo, StopsFor}
@@ -20,7 +20,7 @@ stopped gives frame before now stop.Lost reaches not_bad lost = (reaches, lost r
 stopped gives frame before now stop.Memory reaches not_bad lost = reaches
 
 -- some bytes were sent, and then others
-pub says_on : (before between now : SeenLink) (first second : List ℕ) → Says first before between → Says second between now → Says (first ++ second) before now
+pub says_on : (before between now : SeenLink) (first second : List ℕ) → SendsAll first before between → SendsAll second between now → SendsAll (first ++ second) before now
 says_on before between now first second one two = record {
   left = two.left ∙ one.left;
   passed = sent_more before.transcript between.transcript now.transcript first second one.passed two.passed;
@@ -29,7 +29,7 @@ says_on before between now first second one two = record {
 }
 
 -- or a part of them
-abbrev pub part_on : (before between now : SeenLink) (first second : List ℕ) → Says first before between → SaysPart second between now → SaysPart (first ++ second) before now
+abbrev pub part_on : (before between now : SeenLink) (first second : List ℕ) → SendsAll first before between → SendsPart second between now → SendsPart (first ++ second) before now
 part_on before between now first second one two = record {
   left = two.left ∙ one.left;
   passed = prefix_more_sent before.transcript between.transcript now.transcript first second one.passed two.passed;
@@ -38,7 +38,7 @@ part_on before between now first second one two = record {
 }
 
 -- all of them are a part
-pub part_of : (before now : SeenLink) (bytes : List ℕ) → Says bytes before now → SaysPart bytes before now
+pub part_of : (before now : SeenLink) (bytes : List ℕ) → SendsAll bytes before now → SendsPart bytes before now
 part_of before now bytes says = record { left = says.left; passed = whole_prefix before.transcript now.transcript bytes says.passed; faults = says.faults; ends = says.ends }
 
 -- an outcome and an order that are those of an exchange

@@ -7,7 +7,7 @@ use Rattle.tf_actions.specs.declared.outcomes.Outcome.{Outcome}
 use Rattle.tf_wire.specs.Grammar.{AreRequest}
 use Rattle.tf_wire.specs.declared.messages.Request.{Request}
 use Rattle.tf_sessions.specs.Receiving.{IsStill}
-use Rattle.tf_sessions.specs.Talks.{Stands, Says, SaysPart}
+use Rattle.tf_sessions.specs.Talks.{Stands, SendsAll, SendsPart}
 use Rattle.tf_sessions.specs.declared.incoming.Incoming.{Incoming}
 use Rattle.tf_workers.specs.Session.{Exchange, order_asked, running, reply, replies, Seen, did_with, AreRead, MayBeGiven, SpellsNone}
 use Rattle.tf_workers.specs.declared.answering.Stop.{Stop}
@@ -28,16 +28,16 @@ pub record Answers (gives : Order → Outcome → Type 0) (frame : List ℕ) (be
   pub read : AreRequest frame exchange.request
   pub gave : MayBeGiven gives exchange
   pub did : now.did ≡ did_with before.did (order_asked exchange ∷ [])
-  pub says : Says (reply exchange) before.link now.link
+  pub says : SendsAll (reply exchange) before.link now.link
 
 -- how far the answer to a frame came: nothing was said; it was begun; or the order was performed
 pub data HasComeTo (gives : Order → Outcome → Type 0) (frame : List ℕ) (before now : Seen) : Type 0 where
   nothing : now.did ≡ before.did → IsStill before.link now.link → HasComeTo gives frame before now
   begun : (request : Request) → AreRequest frame request → now.did ≡ before.did
-      → SaysPart (running request) before.link now.link → HasComeTo gives frame before now
+      → SendsPart (running request) before.link now.link → HasComeTo gives frame before now
   performed : (exchange : Exchange) → AreRequest frame exchange.request → MayBeGiven gives exchange
       → now.did ≡ did_with before.did (order_asked exchange ∷ [])
-      → (part : SaysPart (reply exchange) before.link now.link)
+      → (part : SendsPart (reply exchange) before.link now.link)
       → length (running exchange.request) ≤ part.passed.count → HasComeTo gives frame before now
 
 -- a frame that spells no request

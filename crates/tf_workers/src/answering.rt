@@ -1,7 +1,7 @@
 ghost use Rattle.std.specs.Prelude.{◌≡◌, ◌≢◌, Err, OnOk, OnErr, IfErr, IsErrOf};
 ghost use Rattle.tf_numbers.specs.Numbers.{Rises};
 ghost use Rattle.tf_ports.specs.Ports.{seen_link};
-ghost use Rattle.tf_sessions.specs.Talks.{Says, SaysPart};
+ghost use Rattle.tf_sessions.specs.Talks.{SendsAll, SendsPart};
 ghost use Rattle.tf_workers.specs.Session.{spoken, told as told_by, seen};
 ghost use Rattle.tf_workers.specs.Progress.{Answers, StopsFor};
 
@@ -69,9 +69,9 @@ fn told(id: u64, outcome: Outcome) -> Response
 
 /// Sends a response as its frame.
 fn say<L: Link>(alloc: Global, response: &Response, link: &mut L) -> Result<(), Stop>
-    ensures said { OnOk result (Says (spoken response.now) (seen_link L.left L.transcript L.faults L.ends link.old)
+    ensures said { OnOk result (SendsAll (spoken response.now) (seen_link L.left L.transcript L.faults L.ends link.old)
         (seen_link L.left L.transcript L.faults L.ends link.new)) }
-    ensures cut { OnErr result (SaysPart (spoken response.now) (seen_link L.left L.transcript L.faults L.ends link.old)
+    ensures cut { OnErr result (SendsPart (spoken response.now) (seen_link L.left L.transcript L.faults L.ends link.old)
         (seen_link L.left L.transcript L.faults L.ends link.new)) }
     ensures lost { IsErrOf result Stop.Lost → Rises (L.faults link.old) (L.faults link.new) }
     ensures not_bad { result ≢ Err Stop.Bad }

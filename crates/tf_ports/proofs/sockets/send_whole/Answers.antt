@@ -1,10 +1,10 @@
-use Rattle.std.proofs.Common.{◌≡◌, ◌≤◌, length, ℕ, ◌+◌, ◌-◌, ◌++◌, List, [], take, drop, sym, subst, ◌∙◌, ap, arith, append-nil, length-take, length-drop, slice_range}
+use Rattle.std.proofs.Common.{◌≡◌, ◌≤◌, length, ℕ, ◌+◌, ◌-◌, ◌++◌, List, take, drop, sym, subst, ◌∙◌, ap, arith, length-take, length-drop, slice_range}
 use Rattle.std.proofs.lemmas.List.{take_all}
 use Rattle.std.proofs.Math.Seq.{take-add}
 use Rattle.std.specs.Io.KnownBytes.{Appends}
 use Rattle.tf_trace.specs.Calls.{Call}
 use Rattle.tf_ports.specs.Noted.{passed_in}
-use Rattle.tf_ports.specs.Transcript.{Passed, sent_with}
+use Rattle.tf_ports.specs.Transcript.{sent_with}
 use Rattle.tf_ports.proofs.SocketLemmas.{appends_none, appends_on, appends_still}
 use Rattle.tf_ports.proofs.TranscriptLemmas.{sent_more, sent_none}
 use Rattle.tf_ports.proofs.sockets.send_whole.Goals as goal

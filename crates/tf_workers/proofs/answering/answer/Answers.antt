@@ -1,6 +1,6 @@
 use Rattle.std.proofs.Common.{◌+◌, ◌≤◌, length, ap, refl, subst, arith, Err}
 use Rattle.tf_wire.specs.declared.messages.Response.{Response}
-use Rattle.tf_sessions.specs.Talks.{Says, SaysPart}
+use Rattle.tf_sessions.specs.Talks.{SendsAll, SendsPart}
 use Rattle.tf_workers.specs.Session.{Exchange, spoken, told, running, Seen, seen}
 use Rattle.tf_workers.specs.Progress.{HasComeTo}
 use Rattle.tf_workers.specs.Progress.HasComeTo.{begun, performed}
@@ -33,8 +33,8 @@ returns-in-Err-say-clause-stopped g c =
     let between : Seen = seen g.L.Link.left g.L.Link.transcript g.L.Link.faults g.L.Link.ends g.P.Performer.did c.say.new.link c.args.hand.now in
     let now : Seen = seen g.L.Link.left g.L.Link.transcript g.L.Link.faults g.L.Link.ends g.P.Performer.did c.say-2.new.link c.perform.new.self in
     let exchange : Exchange = record { request = c.in-Ok.request; outcome = c.in-Ok-perform.outcome } in
-    let first : Says (running exchange.request) before.link between.link = c.in_default.ensures.said in
-    let second : SaysPart (spoken (told exchange.request.id exchange.outcome)) between.link now.link = subst (λ (answer : Response). SaysPart (spoken answer) between.link now.link) c.told.ensures c.in-Err-say.ensures.cut in
+    let first : SendsAll (running exchange.request) before.link between.link = c.in_default.ensures.said in
+    let second : SendsPart (spoken (told exchange.request.id exchange.outcome)) between.link now.link = subst (λ (answer : Response). SendsPart (spoken answer) between.link now.link) c.told.ensures c.in-Err-say.ensures.cut in
     let reaches : HasComeTo g.P.Performer.gives c.args.frame.now before now =
     performed exchange c.in-Ok.ensures.ok
     (given_for g.P.Performer.gives c.in-Ok-order.order exchange c.in-Ok-order.ensures c.in-Ok-perform.ensures.given)
@@ -48,7 +48,7 @@ returns-clause-answered g c =
     let between : Seen = seen g.L.Link.left g.L.Link.transcript g.L.Link.faults g.L.Link.ends g.P.Performer.did c.say.new.link c.args.hand.now in
     let now : Seen = seen g.L.Link.left g.L.Link.transcript g.L.Link.faults g.L.Link.ends g.P.Performer.did c.say-2.new.link c.perform.new.self in
     let exchange : Exchange = record { request = c.in-Ok.request; outcome = c.in-Ok-perform.outcome } in
-    let second : Says (spoken (told exchange.request.id exchange.outcome)) between.link now.link = subst (λ (answer : Response). Says (spoken answer) between.link now.link) c.told.ensures c.in_default-say.ensures.said in record {
+    let second : SendsAll (spoken (told exchange.request.id exchange.outcome)) between.link now.link = subst (λ (answer : Response). SendsAll (spoken answer) between.link now.link) c.told.ensures c.in_default-say.ensures.said in record {
       exchange = exchange;
       read = c.in-Ok.ensures.ok;
       gave = given_for g.P.Performer.gives c.in-Ok-order.order exchange c.in-Ok-order.ensures c.in-Ok-perform.ensures.given;
