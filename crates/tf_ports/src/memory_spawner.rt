@@ -5,6 +5,7 @@ ghost use Rattle.tf_ports.specs.MemorySpawner.{EndsAs, end_of, end_at, kept_of};
 use crate::programs::{Done, OUTPUT_LIMIT, Output, ProgramRun, SpawnFault, Spawner};
 use std::alloc::Global;
 use std::marker::Model;
+use tf_log::Log;
 use tf_values::{Memory, Text, Texts};
 
 /// A program in memory: its name, and how it ends whatever its arguments are.
@@ -14,12 +15,13 @@ pub struct MemoryProgram {
     pub ends: Done,
 }
 
-/// A spawner in memory, which keeps what it ran. Its calls are numbered from 1, and the stated ones fail; so does one for a name
+/// A spawner in memory, which keeps what it ran and tells how each ended. Its calls are numbered from 1, and the stated ones fail; so does one for a name
 /// that has no program.
 #[derive(Drop)]
 pub struct MemorySpawner {
     programs: Vec<MemoryProgram>,
     ran: Vec<ProgramRun>,
+    ended: Log<ProgramRun, Done>,
     made: u64,
     failing: Vec<u64>,
     faults: u64,
@@ -30,19 +32,25 @@ impl Model for MemorySpawner {
 
     ghost Value = { HeldBySpawner };
 
-    ghost view = { λ held. record { programs = held.programs.items; ran = held.ran.items; faults = held.faults } };
+    ghost view = { λ held. record {
+      programs = held.programs.items;
+      ran = held.ran.items;
+      ended = held.ended.items;
+      faults = held.faults;
+    } };
 }
 
 impl MemorySpawner {
     /// These programs, of which the first of a name counts, with none run and no fault so far.
     pub fn make(alloc: Global, programs: Vec<MemoryProgram>, failing: Vec<u64>) -> MemorySpawner
         ensures held { result.programs ≡ programs.items }
-        ensures unrun { result.ran ≡ [] }
+        ensures unrun { (result.ran ≡ []) × (result.ended ≡ []) }
         ensures none { result.faults ≡ 0 }
     {
         MemorySpawner {
             programs,
             ran: Vec::new(alloc),
+            ended: Log::new(),
             made: 0,
             failing,
             faults: 0,
@@ -59,7 +67,7 @@ impl MemorySpawner {
     fn fault(&mut self) -> Result<Done, SpawnFault>
         ensures failed { IsErrOf result SpawnFault.Failed }
         ensures same { self.new.programs ≡ self.old.programs }
-        ensures unrun { self.new.ran ≡ self.old.ran }
+        ensures unrun { (self.new.ran ≡ self.old.ran) × (self.new.ended ≡ self.old.ended) }
         ensures rose { Rises self.old.faults self.new.faults }
         ensures no_fall { self.old.faults ≤ self.new.faults }
     {
@@ -73,7 +81,7 @@ impl Spawner for MemorySpawner {
 
     ghost answers = { EndsAs };
 
-    ghost ran = { λ held. Some held.ran };
+    ghost ran = { λ held. Some held.ended };
 
     fn run(&mut self, alloc: Global, program: &Text, args: &Texts) -> Result<Done, SpawnFault> {
         self.made = self.made.saturating_add(1);
@@ -86,24 +94,18 @@ impl Spawner for MemorySpawner {
         let Ok(done) = finish(alloc, found) else {
             return Err(SpawnFault::Memory);
         };
-        let Ok(run) = noted(alloc, program, args) else {
+        let Ok(run) = ProgramRun::make(alloc, program, args) else {
             return Err(SpawnFault::Memory);
         };
+        let ended = self.ended.and(&run, &done);
         match self.ran.push(run) {
-            Ok(()) => Ok(done),
+            Ok(()) => {
+                self.ended = ended;
+                Ok(done)
+            }
             Err(_) => Err(SpawnFault::Memory),
         }
     }
-}
-
-/// What is kept of a program that is run.
-fn noted(alloc: Global, program: &Text, args: &Texts) -> Result<ProgramRun, Memory>
-    ensures { IfOk result (λ run. run ≡ record { program = program.now; args = args.now }) }
-{
-    Ok(ProgramRun {
-        program: program.copy(alloc)?,
-        args: args.copy(alloc)?,
-    })
 }
 
 /// The first program of that name.

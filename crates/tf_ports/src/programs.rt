@@ -1,4 +1,4 @@
-ghost use Rattle.std.specs.Prelude.{◌≡◌, ◌↔◌, ℕ, ◌≤◌, List, length, Option, IfOk, OnOk, OnErr, IsErrOf};
+ghost use Rattle.std.specs.Prelude.{◌≡◌, ◌↔◌, ℕ, ◌≤◌, List, length, Option, IfOk, OnErr, IsErrOf};
 ghost use Rattle.tf_numbers.specs.Numbers.{Rises};
 ghost use Rattle.tf_actions.specs.Gives.{told_with};
 ghost use Rattle.tf_ports.specs.declared.programs.Done.{Done as ADone};
@@ -55,6 +55,18 @@ pub struct ProgramRun {
     pub args: Texts,
 }
 
+impl ProgramRun {
+    /// The run of this program with equal arguments.
+    pub fn make(alloc: Global, program: &Text, args: &Texts) -> Result<ProgramRun, Memory>
+        ensures { IfOk result (λ run. run ≡ record { program = program.now; args = args.now }) }
+    {
+        Ok(ProgramRun {
+            program: program.copy(alloc)?,
+            args: args.copy(alloc)?,
+        })
+    }
+}
+
 /// Why a program gave nothing: it couldn't be run, or memory ran out.
 #[derive(Clone, Copy, Debug, PartialEq, Eq)]
 pub enum SpawnFault {
@@ -70,16 +82,16 @@ pub trait Spawner: Drop {
     /// How a program with its arguments may end. No call changes it.
     ghost answers: { Self → List ℕ → List (List ℕ) → ADone → Type 0 };
 
-    /// The programs that were run and answered with their ends, in order, where the spawner keeps them.
-    ghost ran: { Self → Option (List ARun) };
+    /// The programs that were run, each with how it ended, in order, where the spawner keeps them.
+    ghost ran: { Self → Option (List (ARun × ADone)) };
 
     /// Runs the program of that name, and keeps at most 65,537 bytes of its output. `Failed` comes only
     /// where the count of faults rose.
     fn run(&mut self, alloc: Global, program: &Text, args: &Texts) -> Result<Done, SpawnFault>
         ensures answered { IfOk result (λ done. answers self.old program.now args.now done) }
         ensures short { IfOk result (λ done. length done.out ≤ OUTPUT_LIMIT) }
-        ensures ran { OnOk result (ran self.new
-            ≡ told_with (ran self.old) (record { program = program.now; args = args.now })) }
+        ensures ran { IfOk result (λ done. ran self.new
+            ≡ told_with (ran self.old) (record { program = program.now; args = args.now }, done)) }
         ensures not_ran { OnErr result (ran self.new ≡ ran self.old) }
         ensures cause { IsErrOf result SpawnFault.Failed → Rises (faults self.old) (faults self.new) }
         ensures same { (name : List ℕ) (words : List (List ℕ)) (done : ADone)

@@ -54,15 +54,15 @@ abbrev pub ended : Done → Outcome
 ended done = if is_zero done.status then output_gives done.out else outcome.Failed (failure.Exit done.status)
 
 -- what is seen of a spawner around a call: how its programs may end, whether its count of faults rose, and which
--- programs it had run before and after
+-- programs it had run before and after, each with how it ended
 pub record Spawns : Type 1 where
   pub answers : List ℕ → List (List ℕ) → Done → Type 0
   pub rose : Type 0
-  pub before : Option (List ProgramRun)
-  pub after : Option (List ProgramRun)
+  pub before : Option (List (ProgramRun × Done))
+  pub after : Option (List (ProgramRun × Done))
 
 abbrev pub spawns : {S : Type 0} → (S → List ℕ → List (List ℕ) → Done → Type 0) → (S → ℕ)
-    → (S → Option (List ProgramRun)) → S → S → Spawns
+    → (S → Option (List (ProgramRun × Done))) → S → S → Spawns
 spawns answers faults ran old new =
     record { answers = answers old; rose = Rises (faults old) (faults new); before = ran old; after = ran new }
 
@@ -70,15 +70,15 @@ spawns answers faults ran old new =
 abbrev pub RunsNone : Spawns → Type 0
 RunsNone seen = seen.after ≡ seen.before
 
--- this program was run, once, and no other
-abbrev pub RunsOnce : Spawns → ProgramRun → Type 0
-RunsOnce seen run = seen.after ≡ told_with seen.before run
+-- this program was run, once, and no other, and ended so
+abbrev pub RunsOnce : Spawns → ProgramRun → Done → Type 0
+RunsOnce seen run done = seen.after ≡ told_with seen.before (run, done)
 
 -- the program couldn't be run, which comes only where the count of faults rose, or it was run once and ended as it may
 abbrev pub EndsWith : Spawns → ProgramRun → Outcome → Type 0
 EndsWith seen run result =
     ((result ≡ outcome.Failed failure.Spawn) × seen.rose × RunsNone seen)
-    ⊎ ((done : Done) × (seen.answers run.program run.args done) × (RunsOnce seen run) × (result ≡ ended done))
+    ⊎ ((done : Done) × (seen.answers run.program run.args done) × (RunsOnce seen run done) × (result ≡ ended done))
 
 -- it isn't run where an argument is too long
 abbrev pub RunsWith : Bool → Spawns → ProgramRun → Outcome → Type 0
@@ -98,7 +98,8 @@ RunsTo seen (program ∷ words) pairs result =
 -- where memory ran out it was run once, or not at all
 abbrev pub RunsAtMost : Spawns → List (List ℕ) → List Pair → Type 0
 RunsAtMost seen [] pairs = ⊥
-RunsAtMost seen (program ∷ words) pairs = RunsNone seen ⊎ RunsOnce seen (run_for program words pairs)
+RunsAtMost seen (program ∷ words) pairs =
+    RunsNone seen ⊎ ((done : Done) × RunsOnce seen (run_for program words pairs) done)
 
 -- the same with the output dropped
 abbrev pub dropped : Outcome → Outcome

@@ -2,6 +2,7 @@ ghost use Rattle.std.specs.Prelude.{◌≡◌, ◌∷◌, [], ◌++◌, ◌≤�
 ghost use Rattle.std.specs.List.{list_all};
 ghost use Rattle.tf_actions.specs.Built.{plain_pair};
 ghost use Rattle.tf_actions.specs.Gives.{GivesText, GivesNothing};
+ghost use Rattle.tf_ports.specs.declared.programs.Done.{Done as AnEnd};
 ghost use Rattle.tf_tasks.specs.Run.{has_text, without_feed as unfed, spelled, ended, spawns, RunsNone, RunsOnce, EndsWith, RunsTo, RunsAtMost, dropped};
 
 use crate::plain::append_plain;
@@ -50,8 +51,8 @@ fn run_with<S: Spawner>(
     ensures ends { IfOk result (λ outcome. EndsWith (spawns S.answers S.faults S.ran spawner.old spawner.new)
         (record { program = program.now; args = args.now }) outcome) }
     ensures at_most { OnErr result (RunsNone (spawns S.answers S.faults S.ran spawner.old spawner.new)
-        ⊎ RunsOnce (spawns S.answers S.faults S.ran spawner.old spawner.new)
-        (record { program = program.now; args = args.now })) }
+        ⊎ ((done : AnEnd) × RunsOnce (spawns S.answers S.faults S.ran spawner.old spawner.new)
+        (record { program = program.now; args = args.now }) done)) }
     ensures gives { IfOk result (λ outcome. GivesText outcome) }
     ensures no_fall { S.faults spawner.old ≤ S.faults spawner.new }
 {
