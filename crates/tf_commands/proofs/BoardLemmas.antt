@@ -46,7 +46,7 @@ pub board_causes : {old now : DeskState} {status : ℕ} → board.HasCauses old 
 board_causes {old} {now} {status} causes ended =
     let apart = board_apart status ended in
     record {
-      none_falls = record { disk = causes.extends.disk_faults; out = causes.extends.out_faults; sources = omega arith; crew = omega arith };
+      none_falls = record { disk = causes.extends.disk_faults; out = causes.extends.out_faults; sources = omega arith; crew = omega arith; asks = causes.extends.asks };
       unread = λ is. absurd (apart.1 is);
       failed = causes.failed;
       unsaid = causes.unsaid;
@@ -57,7 +57,7 @@ board_causes {old} {now} {status} causes ended =
 pub board_among : (unlistened : Type 0) (old now : DeskState) (sources crew status : ℕ) → HasEachCause status (counts_of old 0 0) (counts_of now 0 0)
     → HasCausesOr unlistened status (counts_of old sources crew) (counts_of now sources crew)
 board_among unlistened old now sources crew status causes = record {
-  none_falls = record { disk = causes.none_falls.disk; out = causes.none_falls.out; sources = omega arith; crew = omega arith };
+  none_falls = record { disk = causes.none_falls.disk; out = causes.none_falls.out; sources = omega arith; crew = omega arith; asks = causes.none_falls.asks };
   unread = λ is. absurd (omega (arith, causes.unread is));
   failed = causes.failed;
   unsaid = causes.unsaid;

@@ -233,7 +233,7 @@ pub worked_causes : (status : ℕ) {old now : DeskState} (sources sources_now cr
     → (status ≡ 8 → Rises crew crew_now ⊎ Rises door door_now) → (status ≡ 7 → Rises old.out_faults now.out_faults) → (status ≡ 0) ⊎ (status ≡ 9) ⊎ (status ≡ 8) ⊎ (status ≡ 7)
     → HasCausesOr (Unit {0} × Rises door door_now) status (counts_of old sources crew) (counts_of now sources_now crew_now)
 worked_causes status sources sources_now crew crew_now door door_now says sources_is crew_le no_link no_text one = record {
-  none_falls = record { disk = omega (arith, says.disk); out = says.out; sources = omega (arith, sources_is); crew = crew_le };
+  none_falls = record { disk = omega (arith, says.disk); out = says.out; sources = omega (arith, sources_is); crew = crew_le; asks = says.asks };
   unread = λ is. absurd (⊎_elim (λ a. omega arith) (⊎_elim (λ a. omega arith) (⊎_elim (λ a. omega arith) (λ a. omega arith))) one);
   failed = λ is. absurd (⊎_elim (λ a. omega arith) (⊎_elim (λ a. omega arith) (⊎_elim (λ a. omega arith) (λ a. omega arith))) one);
   unsaid = no_text;
@@ -244,7 +244,7 @@ worked_causes status sources sources_now crew crew_now door door_now says source
 pub served_causes : (status : ℕ) {old now : DeskState} (sources crew door door_now : ℕ) → HasServiceCauses old now door door_now status → IsServiceStatus status
     → HasCausesOr (Unit {0} × Rises door door_now) status (counts_of old sources crew) (counts_of now sources crew)
 served_causes status sources crew door door_now causes one = record {
-  none_falls = record { disk = causes.desk.extends.disk_faults; out = causes.desk.extends.out_faults; sources = omega arith; crew = omega arith };
+  none_falls = record { disk = causes.desk.extends.disk_faults; out = causes.desk.extends.out_faults; sources = omega arith; crew = omega arith; asks = causes.desk.extends.asks };
   unread = λ is. absurd (ended_apart {old = ⊥} status 3 (service_ended status one) is (inr (inl refl)));
   failed = causes.desk.failed;
   unsaid = causes.desk.unsaid;

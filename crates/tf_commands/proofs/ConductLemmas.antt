@@ -153,7 +153,7 @@ conducts_hires {crew_after = crew_after} {count = count} (conduct.conducted hire
 pub conducted_causes : (unlistened : Type 0) (status : ℕ) {old now : DeskState} (sources sources_now crew crew_now : ℕ) → HasCauses old now status → (status ≡ UNREAD → Rises sources sources_now)
     → (status ≡ UNHIRED → Rises crew crew_now) → (sources ≤ sources_now) × (crew ≤ crew_now) → HasCausesOr unlistened status (counts_of old sources crew) (counts_of now sources_now crew_now)
 conducted_causes unlistened status sources sources_now crew crew_now causes unread unhired no_fall = record {
-  none_falls = record { disk = causes.extends.disk_faults; out = causes.extends.out_faults; sources = no_fall.0; crew = no_fall.1 };
+  none_falls = record { disk = causes.extends.disk_faults; out = causes.extends.out_faults; sources = no_fall.0; crew = no_fall.1; asks = causes.extends.asks };
   unread = unread;
   failed = causes.failed;
   unsaid = causes.unsaid;

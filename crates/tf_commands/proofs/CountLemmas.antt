@@ -22,31 +22,32 @@ use Rattle.tf_desk.proofs.CountLemmas.{rises_later}
 pub rises_until : (a b c : ℕ) → Rises a b → b ≤ c → Rises a c
 rises_until a b c rose le = omega (arith, le, rose)
 
--- what was reached without a word: no disk count fell, and the output had no fault
+-- what was reached without a word: no count fell, and the output had no fault
 pub record Reaches (old mid : DeskState) : Type 0 where
   pub disk : old.disk_faults ≤ mid.disk_faults
   pub out : mid.out_faults ≡ old.out_faults
+  pub asks : old.asks ≤ mid.asks
 
 pub reaches_itself : {old : DeskState} → Reaches old old
-reaches_itself = record { disk = omega arith; out = refl }
+reaches_itself = record { disk = omega arith; out = refl; asks = omega arith }
 
-pub untouched_reaches : {name : List ℕ} {old mid : DeskState} → Trusts (Untouched name) old mid → Reaches old mid
-untouched_reaches call = record { disk = call.does.disk; out = call.does.out }
+pub untouched_reaches : {name : List ℕ} {old mid : DeskState} → Trusts (Untouched name) old mid → old.asks ≤ mid.asks → Reaches old mid
+untouched_reaches call asks = record { disk = call.does.disk; out = call.does.out; asks = asks }
 
-pub open_reaches : {name : List ℕ} {old mid : DeskState} → Trusts (Open name) old mid → Reaches old mid
-open_reaches call = record { disk = call.does.untouched.disk; out = call.does.untouched.out }
+pub open_reaches : {name : List ℕ} {old mid : DeskState} → Trusts (Open name) old mid → old.asks ≤ mid.asks → Reaches old mid
+open_reaches call asks = record { disk = call.does.untouched.disk; out = call.does.untouched.out; asks = asks }
 
 pub goes_reaches : {during : Pairs} {old mid : DeskState} → Trusts (GoesOn during) old mid → Reaches old mid
-goes_reaches call = record { disk = call.does.on_disk.disk_faults; out = call.does.on_disk.out_faults }
+goes_reaches call = record { disk = call.does.on_disk.disk_faults; out = call.does.on_disk.out_faults; asks = omega (arith, call.does.on_disk.asks) }
 
 pub rests_reaches : {old mid : DeskState} → Trusts Rests old mid → Reaches old mid
-rests_reaches call = record { disk = call.does.on_disk.disk_faults; out = call.does.on_disk.out_faults }
+rests_reaches call = record { disk = call.does.on_disk.disk_faults; out = call.does.on_disk.out_faults; asks = omega (arith, call.does.on_disk.asks) }
 
 -- a run went on from the desk that was reached
 pub ran_causes : {status : ℕ} {old mid now : DeskState} {crew crew_now : ℕ} → Reaches old mid → Continues mid now → HasEnded mid now status → crew ≤ crew_now
     → (status ≢ UNREAD) × (status ≢ UNHIRED) → HasEachCause status (counts_of old 0 crew) (counts_of now 0 crew_now)
 ran_causes {status} {old} {mid} {now} r c ended le apart = record {
-  none_falls = record { disk = omega (arith, r.disk, c.extends.disk_faults); out = omega (arith, r.out, c.extends.out_faults); sources = omega arith; crew = le };
+  none_falls = record { disk = omega (arith, r.disk, c.extends.disk_faults); out = omega (arith, r.out, c.extends.out_faults); sources = omega arith; crew = le; asks = omega (arith, r.asks, c.extends.asks) };
   unread = λ is. absurd (apart.0 is);
   failed = λ is. rises_later old.disk_faults mid.disk_faults now.disk_faults r.disk (ended.failed is);
   unsaid = λ is. rises_later old.out_faults mid.out_faults now.out_faults (omega (arith, r.out)) (ended.unsaid is);
@@ -58,7 +59,7 @@ pub said_causes : {status : ℕ} {old mid now : DeskState} {crew crew_now : ℕ}
     → (status ≡ DISK_FAILED → Rises old.disk_faults mid.disk_faults) → (status ≡ UNHIRED → Rises crew crew_now)
     → HasEachCause status (counts_of old 0 crew) (counts_of now 0 crew_now)
 said_causes {status} {old} {mid} {now} r s le failed hired = record {
-  none_falls = record { disk = omega (arith, r.disk, s.says.disk); out = omega (arith, r.out, s.says.out); sources = omega arith; crew = le };
+  none_falls = record { disk = omega (arith, r.disk, s.says.disk); out = omega (arith, r.out, s.says.out); sources = omega arith; crew = le; asks = omega (arith, r.asks, s.says.asks) };
   unread = λ is. absurd (s.read is);
   failed = λ is. rises_until old.disk_faults mid.disk_faults now.disk_faults (failed is) (omega (arith, s.says.disk));
   unsaid = λ is. rises_later old.out_faults mid.out_faults now.out_faults (omega (arith, r.out)) (s.unsaid is);
@@ -93,7 +94,7 @@ refused_causes {name} {entry} {other} {mid} {now} {status} r s failed u = said_c
 -- the same causes, where the crew wasn't used
 pub causes_beside : {status : ℕ} (entry now : DeskState) (crew : ℕ) → HasEachCause status (counts_of entry 0 0) (counts_of now 0 0) → status ≢ UNHIRED → HasEachCause status (counts_of entry 0 crew) (counts_of now 0 crew)
 causes_beside entry now crew c hired = record {
-  none_falls = record { disk = c.none_falls.disk; out = c.none_falls.out; sources = c.none_falls.sources; crew = omega arith };
+  none_falls = record { disk = c.none_falls.disk; out = c.none_falls.out; sources = c.none_falls.sources; crew = omega arith; asks = c.none_falls.asks };
   unread = c.unread;
   failed = c.failed;
   unsaid = c.unsaid;
@@ -104,7 +105,7 @@ causes_beside entry now crew c hired = record {
 pub unbegun_causes : {K : Type 0} (state : K → DeskState) (elements : List Element) (plan : PlanValue) (why : BookFault) (old mid now : K) (status : ℕ) {during : Pairs} → Trusts (GoesOn during) (state old) (state mid)
     → FailsToBegin state elements plan why old mid → HasSaidHalt (cause_in why) (state mid) (state now) status → HasEachCause status (counts_of (state old) 0 0) (counts_of (state now) 0 0)
 unbegun_causes state elements plan why old mid now status call fails s = record {
-  none_falls = record { disk = omega (arith, call.does.on_disk.disk_faults, s.says.disk_faults); out = omega (arith, call.does.on_disk.out_faults, s.says.out_faults); sources = omega arith; crew = omega arith };
+  none_falls = record { disk = omega (arith, call.does.on_disk.disk_faults, s.says.disk_faults); out = omega (arith, call.does.on_disk.out_faults, s.says.out_faults); sources = omega arith; crew = omega arith; asks = omega (arith, call.does.on_disk.asks, s.says.asks) };
   unread = λ is. absurd (s.apart.0 is);
   failed = λ is. (let rose : Rises (state old).disk_faults (state mid).disk_faults = disk_rose why fails (s.failed is) in omega (arith, rose, s.says.disk_faults));
   unsaid = λ is. (let rose : Rises (state mid).out_faults (state now).out_faults = ⊎_elim (λ out. absurd (never_out why fails out)) (λ rose. rose) (s.unsaid is) in omega (arith, rose, call.does.on_disk.out_faults));
@@ -128,7 +129,7 @@ unbegun_causes state elements plan why old mid now status call fails s = record 
 -- the causes of what came after the desk that was reached
 pub causes_from : {status : ℕ} {old mid : DeskState} (now : DeskState) {crew crew_now : ℕ} → Reaches old mid → HasEachCause status (counts_of mid 0 crew) (counts_of now 0 crew_now) → HasEachCause status (counts_of old 0 crew) (counts_of now 0 crew_now)
 causes_from {status} {old} {mid} now r c = record {
-  none_falls = record { disk = omega (arith, r.disk, c.none_falls.disk); out = omega (arith, r.out, c.none_falls.out); sources = c.none_falls.sources; crew = c.none_falls.crew };
+  none_falls = record { disk = omega (arith, r.disk, c.none_falls.disk); out = omega (arith, r.out, c.none_falls.out); sources = c.none_falls.sources; crew = c.none_falls.crew; asks = omega (arith, r.asks, c.none_falls.asks) };
   unread = c.unread;
   failed = λ is. rises_later old.disk_faults mid.disk_faults now.disk_faults r.disk (c.failed is);
   unsaid = λ is. rises_later old.out_faults mid.out_faults now.out_faults (omega (arith, r.out)) (c.unsaid is);

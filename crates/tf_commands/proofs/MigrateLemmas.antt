@@ -117,7 +117,7 @@ pub migrated_causes : {old new : List ℕ} {entry now : DeskState} (status sourc
 migrated_causes {old} {new} {entry} {now} status sources crew migrates causes =
     let ended = migrates_ended old new entry now status migrates in
     record {
-      none_falls = record { disk = causes.extends.disk_faults; out = causes.extends.out_faults; sources = omega arith; crew = omega arith };
+      none_falls = record { disk = causes.extends.disk_faults; out = causes.extends.out_faults; sources = omega arith; crew = omega arith; asks = causes.extends.asks };
       unread = λ is. absurd (ended_apart status 3 ended is (inr (inl refl)));
       failed = causes.failed;
       unsaid = causes.unsaid;

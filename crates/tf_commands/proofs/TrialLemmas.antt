@@ -141,7 +141,7 @@ module _ {K : Type 0} (state : K → DeskState) where
       → (status ≡ UNSAID → Rises (state mid).out_faults now.out_faults) × (status ≡ DISK_FAILED → Rises (state entry).disk_faults (state mid).disk_faults)
       → HasEachCause status (counts_of (state entry) 0 0) (counts_of now 0 0)
   unbegun_causes entry mid now status same s told = record {
-    none_falls = record { disk = omega (arith, ap (λ (d : K). (state d).disk_faults) same, s.says.disk_faults); out = omega (arith, ap (λ (d : K). (state d).out_faults) same, s.says.out_faults); sources = omega arith; crew = omega arith };
+    none_falls = record { disk = omega (arith, ap (λ (d : K). (state d).disk_faults) same, s.says.disk_faults); out = omega (arith, ap (λ (d : K). (state d).out_faults) same, s.says.out_faults); sources = omega arith; crew = omega arith; asks = omega (arith, ap (λ (d : K). (state d).asks) same, s.says.asks) };
     unread = λ is. absurd (s.apart.0 is);
     failed = λ is. (let rose : Rises (state entry).disk_faults (state mid).disk_faults = told.1 is in omega (arith, rose, s.says.disk_faults));
     unsaid = λ is. (let rose : Rises (state mid).out_faults now.out_faults = told.0 is in omega (arith, rose, ap (λ (d : K). (state d).out_faults) same));

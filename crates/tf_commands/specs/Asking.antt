@@ -86,12 +86,13 @@ demo_tree seed size = record { root = demo_flow seed size; store = []; defer = f
 
 -- ---- why a status tells a fault of the outside: a count rose
 
--- the counts of faults: of the disk, of the output, of the sources and of the crew
+-- the counts of faults: of the disk, of the output, of the sources and of the crew; and how often a stop was asked for
 pub record Counts : Type 0 where
   pub disk : ℕ
   pub out : ℕ
   pub sources : ℕ
   pub crew : ℕ
+  pub asks : ℕ
 
 -- no count falls
 pub record NoneFalls (before after : Counts) : Type 0 where
@@ -99,6 +100,7 @@ pub record NoneFalls (before after : Counts) : Type 0 where
   pub out : before.out ≤ after.out
   pub sources : before.sources ≤ after.sources
   pub crew : before.crew ≤ after.crew
+  pub asks : before.asks ≤ after.asks
 
 -- a file can't be read, the disk fails, a text can't be said and no hand is hired only where the count of such faults
 -- rose
@@ -119,7 +121,13 @@ pub record HasCausesOr (unlistened : Type 0) (status : ℕ) (before after : Coun
 
 -- the counts of a desk, of sources and of a crew
 abbrev pub counts_of : DeskState → ℕ → ℕ → Counts
-counts_of desk sources crew = record { disk = desk.disk_faults; out = desk.out_faults; sources = sources; crew = crew }
+counts_of desk sources crew = record {
+  disk = desk.disk_faults;
+  out = desk.out_faults;
+  sources = sources;
+  crew = crew;
+  asks = desk.asks;
+}
 
 -- no count rose
 pub record HasNoFault (before after : Counts) : Type 0 where

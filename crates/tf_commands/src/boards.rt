@@ -1,5 +1,5 @@
 //! How a command on a board is done.
-ghost use Rattle.std.specs.Prelude.{◌≤◌, IsTrue};
+ghost use Rattle.std.specs.Prelude.{IsTrue};
 ghost use Rattle.tf_desk.specs.State.{told_as};
 ghost use Rattle.tf_board.specs.Does.{Does};
 ghost use Rattle.tf_commands.specs.Asking.{HasEachCause, counts_of};
@@ -17,7 +17,6 @@ pub fn on_board<K: Desk>(alloc: Global, board: &Text, request: BoardRequest, des
     ensures falls { IsTrue (K.state result.desk).tells → IsTrue (K.state desk).tells }
     ensures causes { HasEachCause result.status (counts_of (K.state desk) 0 0)
         (counts_of (K.state result.desk) 0 0) }
-    ensures asks { (K.state desk).asks ≤ (K.state result.desk).asks }
 {
     let (desk, status) = board_command(alloc, board, request, desk);
     Over { desk, status }

@@ -1,7 +1,7 @@
 //! A demonstration: a run of a flow that is generated from a seed and a size, recorded in a book, which says no line of an
 //! entry.
 
-ghost use Rattle.std.specs.Prelude.{◌≡◌, ◌≤◌, [], IfOk, IsTrue};
+ghost use Rattle.std.specs.Prelude.{◌≡◌, [], IfOk, IsTrue};
 ghost use Rattle.tf_flow.specs.Plan.{plan_tree};
 ghost use Rattle.tf_machine.specs.Machine.{StandsFor};
 ghost use Rattle.tf_words.specs.Words.{IsDemo};
@@ -40,7 +40,6 @@ pub fn demo_book<K: Desk + Send, W: Crew, R: Threads + Wait + Sync>(
         (W.told crew.old) (W.told crew.new) desk result.desk seed size result.status }
     ensures hires { HiresAtMost (want.Local hands) (W.told crew.old) (W.told crew.new) }
     ensures falls { IsTrue (K.state result.desk).tells → IsTrue (K.state desk).tells }
-    ensures asks { (K.state desk).asks ≤ (K.state result.desk).asks }
     ensures causes { HasEachCause result.status (counts_of (K.state desk) 0 (W.faults crew.old))
         (counts_of (K.state result.desk) 0 (W.faults crew.new)) }
 {

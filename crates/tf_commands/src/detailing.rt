@@ -1,6 +1,6 @@
 //! How the details of a book are listed.
 
-ghost use Rattle.std.specs.Prelude.{◌≡◌, ◌≤◌, ℕ, List, IsTrue};
+ghost use Rattle.std.specs.Prelude.{◌≡◌, ℕ, List, IsTrue};
 ghost use Rattle.tf_desk.specs.State.{told_as};
 ghost use Rattle.tf_book.specs.Shelf.{desk_of};
 ghost use Rattle.tf_commands.specs.Asking.{HasEachCause, counts_of};
@@ -23,7 +23,6 @@ pub fn list_details<K: Desk>(alloc: Global, name: &Text, desk: K) -> Over<K>
     ensures falls { IsTrue (K.state result.desk).tells → IsTrue (K.state desk).tells }
     ensures causes { HasEachCause result.status (counts_of (K.state desk) 0 0)
         (counts_of (K.state result.desk) 0 0) }
-    ensures asks { (K.state desk).asks ≤ (K.state result.desk).asks }
 {
     match open(alloc, desk, name) {
         Ok(shelf) => say_details(alloc, shelf),
@@ -39,7 +38,6 @@ fn say_details<K: Desk>(alloc: Global, shelf: Shelf<K>) -> Over<K>
     ensures causes { HasEachCause result.status
         (counts_of (K.state (desk_of shelf)) 0 0) (counts_of (K.state result.desk) 0 0) }
     ensures tells { (K.state result.desk).tells ≡ (K.state (desk_of shelf)).tells }
-    ensures asks { (K.state (desk_of shelf)).asks ≤ (K.state result.desk).asks }
 {
     let mut text = Vec::new(alloc);
     let made = append_details(shelf.details(), &mut text);

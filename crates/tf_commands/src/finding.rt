@@ -152,7 +152,6 @@ fn say_none<K: Desk>(alloc: Global, shelf: Shelf<K>, wanted: &Option<Name>) -> O
         → IsShelfOf K.state name (told_as (K.state seen) (K.state entry)) shelf
         → Unfound name wanted.now (told_as (K.state seen) (K.state entry)) (K.state result.desk) result.status }
     ensures tells { (K.state result.desk).tells ≡ (K.state (desk_of shelf)).tells }
-    ensures asks { (K.state (desk_of shelf)).asks ≤ (K.state result.desk).asks }
     ensures causes { HasEachCause result.status
         (counts_of (K.state (desk_of shelf)) 0 0) (counts_of (K.state result.desk) 0 0) }
 {

@@ -1,6 +1,6 @@
 //! A run that is recorded in a book: it begins as a new detail.
 
-ghost use Rattle.std.specs.Prelude.{◌≡◌, ◌≤◌, ◌⊎◌, ℕ, List, [], map, Some, false, vec_len, IsTrue};
+ghost use Rattle.std.specs.Prelude.{◌≡◌, ◌⊎◌, ℕ, List, [], map, Some, false, vec_len, IsTrue};
 ghost use Rattle.tf_desk.specs.State.{told_as};
 ghost use Rattle.std.specs.List.{AllByRecursion};
 ghost use Rattle.tf_flow.specs.Plan.{plan_tree};
@@ -53,7 +53,6 @@ pub fn run_file<K: Desk + Send, S: Sources, W: Crew, R: Threads + Wait + Sync>(
         (K.state desk).shown (K.state result.desk).shown result.status }
     ensures falls { IsTrue (K.state result.desk).tells → IsTrue (K.state desk).tells }
     ensures hires { HiresAtMost request.now.want (W.told crew.old) (W.told crew.new) }
-    ensures asks { (K.state desk).asks ≤ (K.state result.desk).asks }
     ensures causes { HasEachCause result.status (counts_of (K.state desk) (S.faults sources.old) (W.faults crew.old))
         (counts_of (K.state result.desk) (S.faults sources.new) (W.faults crew.new)) }
 {
@@ -81,7 +80,6 @@ pub fn run_plan<K: Desk + Send, W: Crew, R: Threads + Wait + Sync>(
         (plan_tree machine.plan) result.status }
     ensures falls { IsTrue (K.state result.desk).tells → IsTrue (K.state desk).tells }
     ensures hires { HiresAtMost request.now.want (W.told crew.old) (W.told crew.new) }
-    ensures asks { (K.state desk).asks ≤ (K.state result.desk).asks }
     ensures causes { HasEachCause result.status (counts_of (K.state desk) 0 (W.faults crew.old))
         (counts_of (K.state result.desk) 0 (W.faults crew.new)) }
 {
@@ -111,7 +109,6 @@ fn run_anew<K: Desk + Send, W: Crew, R: Threads + Wait + Sync>(
         (plan_tree machine.plan) result.status }
     ensures hires { HiresAtMost request.now.want (W.told crew.old) (W.told crew.new) }
     ensures falls { IsTrue (K.state result.desk).tells → IsTrue (K.state (desk_of shelf)).tells }
-    ensures asks { (K.state (desk_of shelf)).asks ≤ (K.state result.desk).asks }
     ensures causes { HasEachCause result.status (counts_of (K.state (desk_of shelf)) 0 (W.faults crew.old))
         (counts_of (K.state result.desk) 0 (W.faults crew.new)) }
 {
@@ -157,7 +154,6 @@ fn hire_and_run<K: Desk + Send, W: Crew, R: Threads + Wait + Sync>(
         result.status)) }
     ensures hires { HiresAtMost request.now.want (W.told crew.old) (W.told crew.new) }
     ensures falls { IsTrue (K.state result.desk).tells → IsTrue (K.state (desk_of shelf)).tells }
-    ensures asks { (K.state (desk_of shelf)).asks ≤ (K.state result.desk).asks }
     ensures causes { HasEachCause result.status (counts_of (K.state (desk_of shelf)) 0 (W.faults crew.old))
         (counts_of (K.state result.desk) 0 (W.faults crew.new)) }
 {
@@ -200,7 +196,6 @@ fn run_in<K: Desk + Send, P: Performer + Send, R: Threads + Wait + Sync>(
         (Some (map P.did hands.new.items)) name shelf.elements machine.plan
         (told_as (K.state result.desk) (K.state entry)) (K.state result.desk) result.status }
     ensures falls { IsTrue (K.state result.desk).tells → IsTrue (K.state (desk_of shelf)).tells }
-    ensures asks { (K.state (desk_of shelf)).asks ≤ (K.state result.desk).asks }
     ensures causes { HasEachCause result.status (counts_of (K.state (desk_of shelf)) 0 0)
         (counts_of (K.state result.desk) 0 0) }
     ensures back { vec_len hands.new ≡ vec_len hands.old }

@@ -23,7 +23,6 @@ pub fn reset_book<K: Desk>(alloc: Global, name: &Text, wanted: &Option<Name>, de
     ensures resets { ResetsBook name.now wanted.now (told_as (K.state result.desk) (K.state desk))
         (K.state result.desk) result.status }
     ensures falls { IsTrue (K.state result.desk).tells → IsTrue (K.state desk).tells }
-    ensures asks { (K.state desk).asks ≤ (K.state result.desk).asks }
     ensures causes { HasEachCause result.status (counts_of (K.state desk) 0 0)
         (counts_of (K.state result.desk) 0 0) }
 {
@@ -43,7 +42,6 @@ fn put_back<K: Desk>(alloc: Global, mut book: Book<K>) -> Over<K>
         → HoldsBook name wanted (told_as (K.state seen) (K.state entry)) book
         → ResetsBook name wanted (told_as (K.state seen) (K.state entry)) (K.state result.desk) result.status }
     ensures tells { (K.state result.desk).tells ≡ (K.state book.journal.desk).tells }
-    ensures asks { (K.state book.journal.desk).asks ≤ (K.state result.desk).asks }
     ensures causes { HasEachCause result.status (counts_of (K.state book.journal.desk) 0 0)
         (counts_of (K.state result.desk) 0 0) }
 {

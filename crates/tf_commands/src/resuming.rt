@@ -43,7 +43,6 @@ pub fn resume_book<K: Desk + Send, W: Crew, R: Threads + Wait + Sync>(
         (K.state result.desk) result.status }
     ensures falls { IsTrue (K.state result.desk).tells → IsTrue (K.state desk).tells }
     ensures hires { HiresAtMost request.now.want (W.told crew.old) (W.told crew.new) }
-    ensures asks { (K.state desk).asks ≤ (K.state result.desk).asks }
     ensures causes { HasEachCause result.status (counts_of (K.state desk) 0 (W.faults crew.old))
         (counts_of (K.state result.desk) 0 (W.faults crew.new)) }
 {
@@ -75,7 +74,6 @@ fn go_on<K: Desk + Send, W: Crew, R: Threads + Wait + Sync>(
         result.status }
     ensures hires { HiresAtMost request.now.want (W.told crew.old) (W.told crew.new) }
     ensures tells { (K.state result.desk).tells ≡ (K.state book.journal.desk).tells }
-    ensures asks { (K.state book.journal.desk).asks ≤ (K.state result.desk).asks }
     ensures causes { HasEachCause result.status (counts_of (K.state book.journal.desk) 0 (W.faults crew.old))
         (counts_of (K.state result.desk) 0 (W.faults crew.new)) }
 {
@@ -130,7 +128,6 @@ fn hire_and_go_on<K: Desk + Send, W: Crew, R: Threads + Wait + Sync>(
         result.status }
     ensures hires { HiresAtMost request.now.want (W.told crew.old) (W.told crew.new) }
     ensures tells { (K.state result.desk).tells ≡ (K.state book.journal.desk).tells }
-    ensures asks { (K.state book.journal.desk).asks ≤ (K.state result.desk).asks }
     ensures causes { HasEachCause result.status (counts_of (K.state book.journal.desk) 0 (W.faults crew.old))
         (counts_of (K.state result.desk) 0 (W.faults crew.new)) }
 {

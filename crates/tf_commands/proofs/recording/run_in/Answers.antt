@@ -40,6 +40,3 @@ returns-in-Err-clause-runs g c = λ name entry seen so.
 pub returns-in-Err-clause-causes : goal.returns-in-Err-clause-causes
 returns-in-Err-clause-causes g c =
     unbegun_causes g.K.Desk.state c.args.shelf.elements c.args.machine.plan c.in-Err.fault _ c.in-Err.desk c.say_unbegun.result.desk c.say_unbegun.result.status c.in-Err.ensures.goes c.in-Err.ensures.fails c.say_unbegun.ensures.says
-
-pub returns-in-Err-clause-asks : goal.returns-in-Err-clause-asks
-returns-in-Err-clause-asks g c = omega (arith, c.in-Err.ensures.goes.does.on_disk.asks, c.say_unbegun.ensures.says.says.asks)

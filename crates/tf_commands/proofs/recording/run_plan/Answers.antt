@@ -28,6 +28,6 @@ pub returns-in-Err-clause-causes : goal.returns-in-Err-clause-causes
 returns-in-Err-clause-causes g c =
     let e = c.in-Err.ensures in
     let r = c.refuse_book in
-    said_causes (untouched_reaches e.unopened) r.ensures.said (omega arith) (λ is. e.cause (r.ensures.failed is))
+    said_causes (untouched_reaches e.unopened e.asks) r.ensures.said (omega arith) (λ is. e.cause (r.ensures.failed is))
     (λ is. absurd (unopened_hired c.args.name.now (told_as (g.K.Desk.state c.in-Err.desk) (g.K.Desk.state c.args.desk)) (g.K.Desk.state r.result.desk) r.result.status
     (r.ensures.unopened c.args.name.now c.args.desk c.in-Err.desk e.unopened.does e.refused) is))

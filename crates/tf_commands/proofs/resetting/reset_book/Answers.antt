@@ -10,7 +10,7 @@ returns-in-Ok-clause-resets g c =
     (c.put_back.ensures.goes c.args.name.now c.args.wanted.now c.args.desk c.in-Ok.book.journal.desk c.in-Ok.ensures.opened.does c.in-Ok.ensures.holds)
 
 pub returns-in-Ok-clause-causes : goal.returns-in-Ok-clause-causes
-returns-in-Ok-clause-causes g c = causes_from (g.K.Desk.state c.put_back.result.desk) (open_reaches c.in-Ok.ensures.opened) c.put_back.ensures.causes
+returns-in-Ok-clause-causes g c = causes_from (g.K.Desk.state c.put_back.result.desk) (open_reaches c.in-Ok.ensures.opened c.in-Ok.ensures.asks) c.put_back.ensures.causes
 
 pub returns-in-Err-clause-resets : goal.returns-in-Err-clause-resets
 returns-in-Err-clause-resets g c = unfound_reset c.in-Err.ensures.unfound

@@ -21,7 +21,7 @@ returns-in-Ok-clause-resumes g c =
     (resumed_over book e.ready.runs e.holds (c.go_on.ensures.goes c.args.name.now c.args.wanted.now c.args.desk book.journal.desk e.opened.does e.holds)))
 
 pub returns-in-Ok-clause-causes : goal.returns-in-Ok-clause-causes
-returns-in-Ok-clause-causes g c = causes_from (g.K.Desk.state c.go_on.result.desk) (open_reaches c.in-Ok.ensures.opened) c.go_on.ensures.causes
+returns-in-Ok-clause-causes g c = causes_from (g.K.Desk.state c.go_on.result.desk) (open_reaches c.in-Ok.ensures.opened c.in-Ok.ensures.asks) c.go_on.ensures.causes
 
 pub returns-in-Err-clause-resumes : goal.returns-in-Err-clause-resumes
 returns-in-Err-clause-resumes g c = unfound_again refl c.in-Err.ensures.unfound

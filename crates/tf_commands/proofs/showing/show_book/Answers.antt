@@ -15,7 +15,7 @@ returns-in-Ok-clause-shows g c =
 pub returns-in-Ok-clause-causes : goal.returns-in-Ok-clause-causes
 returns-in-Ok-clause-causes g c =
     let apart = whole_apart c.say_whole.result.status c.say_whole.ensures.status in
-    said_causes (open_reaches c.in-Ok.ensures.opened) c.say_whole.ensures.said (omega arith) (λ is. absurd (apart.0 is)) (λ is. absurd (apart.1 is))
+    said_causes (open_reaches c.in-Ok.ensures.opened c.in-Ok.ensures.asks) c.say_whole.ensures.said (omega arith) (λ is. absurd (apart.0 is)) (λ is. absurd (apart.1 is))
 
 pub returns-in-Err-clause-shows : goal.returns-in-Err-clause-shows
 returns-in-Err-clause-shows g c = unfound_show c.in-Err.ensures.unfound

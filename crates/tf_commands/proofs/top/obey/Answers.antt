@@ -47,9 +47,6 @@ returns-in-Migrate-clause-obeys g c = obeys_so g.K.Desk.state _ _ c.args.asked _
 pub returns-in-Migrate-clause-hires : goal.returns-in-Migrate-clause-hires
 returns-in-Migrate-clause-hires g c = hires_so c.args.asked _ _ _ c.in-Migrate.is refl
 
-pub returns-in-Migrate-clause-asks : goal.returns-in-Migrate-clause-asks
-returns-in-Migrate-clause-asks g c = c.migrate_command-desk.ensures.causes.extends.asks
-
 pub returns-in-Migrate-clause-causes : goal.returns-in-Migrate-clause-causes
 returns-in-Migrate-clause-causes g c =
     widened _ _ _ _ (migrated_causes c.migrate_command-desk.result.1 (g.S.Sources.faults c.args.sources.now) (g.W.Crew.faults c.args.crew.now) c.migrate_command-desk.ensures.migrates c.migrate_command-desk.ensures.causes)
@@ -85,9 +82,6 @@ conduct_command-desk-requires-clause-many g c = λ lives kept.
 pub returns-in-Conduct-clause-obeys : goal.returns-in-Conduct-clause-obeys
 returns-in-Conduct-clause-obeys g c = obeys_so g.K.Desk.state _ _ c.args.asked _ _ _ _ _ _ _ c.in-Conduct.is (c.conduct_command-desk.ensures.conducts, refl)
 
-pub returns-in-Conduct-clause-asks : goal.returns-in-Conduct-clause-asks
-returns-in-Conduct-clause-asks g c = c.conduct_command-desk.ensures.causes.extends.asks
-
 pub returns-in-Conduct-clause-causes : goal.returns-in-Conduct-clause-causes
 returns-in-Conduct-clause-causes g c =
     conducted_causes _ c.conduct_command-desk.result.1 (g.S.Sources.faults c.args.sources.now) (g.S.Sources.faults c.conduct_command-desk.new.sources) (g.W.Crew.faults c.args.crew.now)
@@ -101,9 +95,6 @@ serve_command-desk-requires-clause-few g c = λ lives kept. few_so c.args.asked 
 
 pub returns-in-Serve-clause-obeys : goal.returns-in-Serve-clause-obeys
 returns-in-Serve-clause-obeys g c = obeys_so g.K.Desk.state _ _ c.args.asked _ _ _ _ _ _ _ c.in-Serve.is (c.serve_command-desk.ensures.serves, refl)
-
-pub returns-in-Serve-clause-asks : goal.returns-in-Serve-clause-asks
-returns-in-Serve-clause-asks g c = c.serve_command-desk.ensures.causes.desk.extends.asks
 
 pub returns-in-Serve-clause-door : goal.returns-in-Serve-clause-door
 returns-in-Serve-clause-door g c = c.serve_command-desk.ensures.causes.door
