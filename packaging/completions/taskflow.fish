@@ -10,7 +10,7 @@ function __taskflow_given
             continue
         end
         switch $word
-            case --hands --worker --stop-after --target --sessions --priority --details -o
+            case --hands --worker --reply-within --stop-after --target --sessions --mode --priority --details -o
                 set is_value 1
             case '-*'
             case '*'
@@ -87,6 +87,7 @@ for command in try run resume demo conduct
 end
 for command in try run resume
     complete -c taskflow -n "__taskflow_is $command" -l worker -x -d 'work with a hand at each worker'
+    complete -c taskflow -n "__taskflow_is $command" -l reply-within -x -d 'take a worker as lost that is silent for so many seconds'
 end
 for command in run resume
     complete -c taskflow -n "__taskflow_is $command" -l stop-after -x -d 'suspend the run after so many entries'
@@ -99,6 +100,7 @@ for command in try run check
 end
 for command in worker 'board serve'
     complete -c taskflow -n "__taskflow_is '$command'" -l sessions -x -d 'serve so many'
+    complete -c taskflow -n "__taskflow_is '$command'" -l mode -x -a '0600 0660 0666' -d 'the mode of a socket'
 end
 complete -c taskflow -n "__taskflow_is 'board post'" -l priority -x -a 'VERY_HIGH HIGH NORMAL LOW VERY_LOW' -d 'how urgent it is'
 complete -c taskflow -n "__taskflow_is 'board post'" -l details -x -d 'a value that is kept with the job'

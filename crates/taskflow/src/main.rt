@@ -12,7 +12,7 @@ use std::process::ExitCode;
 use std::rt::Files;
 use std::{env, io};
 use tf_report::OUT_OF_MEMORY;
-use tf_words::{Word, access_of};
+use tf_words::{Word, access_of, sockets_of};
 
 /// What is opened so that nothing else takes the number of a standard stream that was closed before.
 const NOTHING: &str = "/dev/null";
@@ -30,7 +30,10 @@ fn main(rt: HostRuntime) -> ExitCode {
             Vec::new(alloc)
         }
     };
-    let outside = begin::<Brand>(rt, access_of(&words));
+    let Ok(sockets) = sockets_of(alloc, &words) else {
+        return ExitCode::from(OUT_OF_MEMORY);
+    };
+    let outside = begin::<Brand>(rt, access_of(&words), sockets);
     let ended = obey(&rt, alloc, &words, outside);
     ExitCode::from(ended.status)
 }

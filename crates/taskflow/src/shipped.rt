@@ -24,12 +24,13 @@ use std::thread::Threads;
 use tf_commands::{Ended, Outside, ProgramCrew, taskflow};
 use tf_desk::{Access, Desk, FileDesk, World};
 use tf_ports::{Crew, Door, Folder, SocketDialer, SocketDoor, Sources};
-use tf_words::Word;
+use tf_words::{Sockets, Word};
 
-/// The real desk, whose files are picked for this, folder, crew and door, that have made no call.
+/// The real desk, whose files are picked for this, folder, crew and door, whose sockets are such, that have made no call.
 pub(crate) fn begin<W: World>(
     rt: HostRuntime,
     access: Access,
+    sockets: Sockets,
 ) -> Outside<
     FileDesk<HostRuntime, W>,
     Folder<HostRuntime, W>,
@@ -43,8 +44,8 @@ pub(crate) fn begin<W: World>(
     Outside {
         desk: FileDesk::make(rt, access),
         sources: Folder::make(rt),
-        crew: ProgramCrew::make(rt, SocketDialer::make(rt)),
-        door: SocketDoor::make(rt),
+        crew: ProgramCrew::make(rt, SocketDialer::make(rt, sockets.within)),
+        door: SocketDoor::make(rt, sockets.mode),
     }
 }
 

@@ -56,7 +56,7 @@ fn a_dialer_in_memory_makes_its_links_and_fails_where_it_is_told(
 fn an_address_at_which_nobody_waits_is_not_dialled(rt: HostRuntime) -> Result<(), Fail> {
     let alloc = rt.alloc();
     let address = address_of(alloc, "nobody.socket")?;
-    let mut dialer = SocketDialer::make(rt);
+    let mut dialer = SocketDialer::make(rt, None);
     assert!(rt; fails(alloc, &mut dialer, &address));
     Ok(())
 }

@@ -73,9 +73,9 @@ fn a_hand_asks_a_worker_over_a_unix_socket(rt: HostRuntime) -> Result<(), Fail> 
     let alloc = rt.alloc();
     let _gone = fs::remove_file(&rt, PATH);
     let address = address_of(alloc, PATH)?;
-    let mut door = SocketDoor::make(rt);
+    let mut door = SocketDoor::make(rt, 0o600);
     assert!(rt; door.listen(alloc, &address).is_ok());
-    let mut dialer = SocketDialer::make(rt);
+    let mut dialer = SocketDialer::make(rt, None);
     let hand = hand_by(alloc, &mut dialer, &address)?;
     let (asked, served) = thread::join(&rt, || asks(alloc, hand), || serve_one(alloc, &mut door));
     assert!(rt; asked?);

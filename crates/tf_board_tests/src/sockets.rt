@@ -65,9 +65,9 @@ fn a_client_asks_over_a_unix_socket(rt: HostRuntime) -> Result<(), Fail> {
     let alloc = rt.alloc();
     let _gone = fs::remove_file(&rt, PATH);
     let address = Address::Unix(Text::make(alloc, PATH.as_bytes()).ok().ok_or("no text")?);
-    let mut door = SocketDoor::make(rt);
+    let mut door = SocketDoor::make(rt, 0o600);
     assert!(rt; door.listen(alloc, &address).is_ok());
-    let mut dialer = SocketDialer::make(rt);
+    let mut dialer = SocketDialer::make(rt, None);
     let link = dialer.dial(alloc, &address).ok().ok_or("no link")?;
     let shared = claimed_board(alloc)?;
     let request = frames(

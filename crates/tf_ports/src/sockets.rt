@@ -7,10 +7,13 @@ use crate::dialers::Dialer;
 use crate::doors::Door;
 use crate::links::{Came, Link, LinkFault};
 use std::alloc::Global;
+use std::fs::{self, Permissions};
 use std::io::{self, Eprint, Error, ErrorKind, Read, Write};
 use std::net::{Ipv4Addr, Net, Shutdown, SocketAddrV4, TcpListener, TcpStream};
+use std::os::unix::fs::{FileTypeExt, PermissionsExt};
 use std::os::unix::net::{UnixListener, UnixStream};
 use std::rt::Files;
+use std::time::Duration;
 use tf_desk::tell_reason;
 use tf_log::Log;
 use tf_trace::Trace;
@@ -25,19 +28,23 @@ enum Stream {
 
 /// A real link, over a socket. Where it fails the system's reason is said on standard error, behind the address at
 /// which it was made. It notes what it sends and what comes, and tells what passed; of what it has left it tells nothing.
+/// One that isn't waited for for ever is ended when its peer is silent for too long, so that what comes late is never
+/// taken for a reply to what was sent since.
 #[derive(Drop)]
 pub struct SocketLink<R> {
     runtime: R,
     address: Address,
     stream: Stream,
+    within: Option<u32>,
     faults: u64,
     ends: u64,
     trace: Trace,
 }
 
 impl<R> SocketLink<R> {
-    /// A link that was made at the address, with no fault and no end so far.
-    fn make(runtime: R, address: Address, stream: Stream) -> SocketLink<R>
+    /// A link that was made at the address, with no fault and no end so far. Its stream waits for its peer for so many
+    /// seconds, if there is a bound.
+    fn make(runtime: R, address: Address, stream: Stream, within: Option<u32>) -> SocketLink<R>
         ensures unsent { result.trace.calls ≡ [] }
         ensures none { (result.faults ≡ 0) × (result.ends ≡ 0) }
     {
@@ -45,6 +52,7 @@ impl<R> SocketLink<R> {
             runtime,
             address,
             stream,
+            within,
             faults: 0,
             ends: 0,
             trace: Trace::new(),
@@ -67,7 +75,8 @@ impl<R: Eprint + Drop> Link for SocketLink<R> {
             Stream::Tcp(stream) => send_whole(stream, &mut self.trace, bytes),
         };
         if let Err(reason) = done {
-            tell_address_reason(&self.runtime, &self.address, &reason);
+            tell_link_reason(&self.runtime, &self.address, self.within, &reason);
+            shut(&self.stream);
             self.faults = self.faults.saturating_add(1);
             return Err(LinkFault);
         }
@@ -76,8 +85,8 @@ impl<R: Eprint + Drop> Link for SocketLink<R> {
 
     fn recv(&mut self, buf: &mut [u8]) -> Came {
         let came = match &mut self.stream {
-            Stream::Unix(stream) => get(&self.runtime, &self.address, stream, buf),
-            Stream::Tcp(stream) => get(&self.runtime, &self.address, stream, buf),
+            Stream::Unix(stream) => get(&self.runtime, &self.address, self.within, stream, buf),
+            Stream::Tcp(stream) => get(&self.runtime, &self.address, self.within, stream, buf),
         };
         match came {
             Came::Bytes(count) => {
@@ -89,6 +98,7 @@ impl<R: Eprint + Drop> Link for SocketLink<R> {
                 Came::End
             }
             Came::Failed => {
+                shut(&self.stream);
                 self.faults = self.faults.saturating_add(1);
                 Came::Failed
             }
@@ -96,12 +106,17 @@ impl<R: Eprint + Drop> Link for SocketLink<R> {
     }
 
     fn end(&mut self) {
-        // One that the peer ended already can't be ended again.
-        let _ended = match &self.stream {
-            Stream::Unix(stream) => stream.shutdown(Shutdown::Both),
-            Stream::Tcp(stream) => stream.shutdown(Shutdown::Both),
-        };
+        shut(&self.stream);
     }
+}
+
+/// Ends the stream both ways.
+fn shut(stream: &Stream) {
+    // One that the peer ended already can't be ended again.
+    let _ended = match stream {
+        Stream::Unix(stream) => stream.shutdown(Shutdown::Both),
+        Stream::Tcp(stream) => stream.shutdown(Shutdown::Both),
+    };
 }
 
 /// Sends the bytes over the stream, in as many writes as it takes; an interrupted one is tried again. `Err`: a write failed
@@ -132,7 +147,13 @@ fn send_whole<S: Write>(stream: &mut S, trace: &mut Trace, bytes: &[u8]) -> io::
 }
 
 /// What comes next over the stream of a link that was made at the address; an interrupted read is tried again.
-fn get<R: Eprint, S: Read>(runtime: &R, address: &Address, stream: &mut S, buf: &mut [u8]) -> Came
+fn get<R: Eprint, S: Read>(
+    runtime: &R,
+    address: &Address,
+    within: Option<u32>,
+    stream: &mut S,
+    buf: &mut [u8],
+) -> Came
     requires room { 0 < length buf.old }
     ensures { ReadsSome (S.remaining stream.old) (S.remaining stream.new) buf.new result }
 {
@@ -142,7 +163,7 @@ fn get<R: Eprint, S: Read>(runtime: &R, address: &Address, stream: &mut S, buf: 
             Ok(count) => return Came::Bytes(count),
             Err(reason) => {
                 if reason.kind() != ErrorKind::Interrupted {
-                    tell_address_reason(runtime, address, &reason);
+                    tell_link_reason(runtime, address, within, &reason);
                     return Came::Failed;
                 }
             }
@@ -165,12 +186,14 @@ struct Opened {
     listener: Listener,
 }
 
-/// The real door: a Unix socket at a path that nothing has yet, and that stays when the door is gone, or a
-/// port of 127.0.0.1. Where it can't be opened, or fails, the system's reason is said on standard error. It notes and
-/// tells where it was opened, and of each link what was seen as it was given and given back.
+/// The real door: a Unix socket, whose file has the given mode, at a path that nothing has yet but a socket at which nobody
+/// answers, and that stays when the door is gone; or a port of 127.0.0.1. Where it can't be opened, or fails, the system's
+/// reason is said on standard error. It notes and tells where it was opened, and of each link what was seen as it was given
+/// and given back.
 #[derive(Drop)]
 pub struct SocketDoor<R> {
     runtime: R,
+    mode: u32,
     opened: Option<Opened>,
     faults: u64,
     addresses: Log<Address, ()>,
@@ -180,13 +203,14 @@ pub struct SocketDoor<R> {
 
 impl<R> SocketDoor<R> {
     /// A door that isn't open yet, with no fault so far.
-    pub fn make(runtime: R) -> SocketDoor<R>
+    pub fn make(runtime: R, mode: u32) -> SocketDoor<R>
         ensures unopened { result.addresses.items ≡ [] }
         ensures ungiven { (result.given.items ≡ []) × (result.returned.items ≡ []) }
         ensures none { result.faults ≡ 0 }
     {
         SocketDoor {
             runtime,
+            mode,
             opened: None,
             faults: 0,
             addresses: Log::new(),
@@ -209,7 +233,7 @@ impl<R: Net<Listener = TcpListener, Stream = TcpStream> + Files + Eprint + Copy 
         let Ok(kept) = address.copy(alloc) else {
             return Err(PortFault::Memory);
         };
-        match open(&self.runtime, address) {
+        match open(&self.runtime, address, self.mode) {
             Ok(listener) => {
                 self.opened = Some(Opened {
                     address: kept,
@@ -261,7 +285,7 @@ fn next_link<R: Eprint + Copy + Drop>(
         return Err(PortFault::Memory);
     };
     match next(&opened.listener) {
-        Ok(stream) => Ok(SocketLink::make(*runtime, address, stream)),
+        Ok(stream) => Ok(SocketLink::make(*runtime, address, stream, None)),
         Err(reason) => {
             tell_address_reason(runtime, &address, &reason);
             Err(PortFault::Failed)
@@ -270,22 +294,25 @@ fn next_link<R: Eprint + Copy + Drop>(
 }
 
 /// The real dialer: it connects to a Unix socket at a path, or to a port of 127.0.0.1. Where nobody waits there, or
-/// it fails, the system's reason is said on standard error. It notes and tells at which addresses it made links.
+/// it fails, the system's reason is said on standard error. It notes and tells at which addresses it made links, which
+/// wait for their peers for so many seconds, if there is a bound.
 #[derive(Drop)]
 pub struct SocketDialer<R> {
     runtime: R,
+    within: Option<u32>,
     faults: u64,
     addresses: Log<Address, ()>,
 }
 
 impl<R> SocketDialer<R> {
     /// A dialer with no fault so far.
-    pub fn make(runtime: R) -> SocketDialer<R>
+    pub fn make(runtime: R, within: Option<u32>) -> SocketDialer<R>
         ensures undialled { result.addresses.items ≡ [] }
         ensures none { result.faults ≡ 0 }
     {
         SocketDialer {
             runtime,
+            within,
             faults: 0,
             addresses: Log::new(),
         }
@@ -305,10 +332,10 @@ impl<
         let Ok(kept) = address.copy(alloc) else {
             return Err(PortFault::Memory);
         };
-        match connect(&self.runtime, address) {
+        match connect(&self.runtime, address, self.within) {
             Ok(stream) => {
                 self.addresses = self.addresses.and(address, &());
-                Ok(SocketLink::make(self.runtime, kept, stream))
+                Ok(SocketLink::make(self.runtime, kept, stream, self.within))
             }
             Err(reason) => {
                 tell_address_reason(&self.runtime, address, &reason);
@@ -319,23 +346,62 @@ impl<
     }
 }
 
-/// A connection to the socket that waits at the address. What is sent over it isn't held back for more to come.
+/// A connection to the socket that waits at the address. What is sent over it isn't held back for more to come. A read and
+/// a write wait for so many seconds, if there is a bound.
 fn connect<R: Net<Listener = TcpListener, Stream = TcpStream> + Files>(
     runtime: &R,
     address: &Address,
+    within: Option<u32>,
 ) -> io::Result<Stream> {
+    let wait = match within {
+        Some(seconds) => Some(Duration::from_secs(u64::from(seconds))),
+        None => None,
+    };
     match address {
         Address::Unix(path) => {
             let Ok(path) = str::from_utf8(path.bytes()) else {
                 return Err(Error::from(ErrorKind::InvalidInput));
             };
-            Ok(Stream::Unix(UnixStream::connect(runtime, path)?))
+            let stream = UnixStream::connect(runtime, path)?;
+            stream.set_read_timeout(wait)?;
+            stream.set_write_timeout(wait)?;
+            Ok(Stream::Unix(stream))
         }
         Address::Tcp(port) => {
             let there = SocketAddrV4::new(Ipv4Addr::LOCALHOST, *port);
             let stream = TcpStream::connect(runtime, there)?;
             stream.set_nodelay(true)?;
+            stream.set_read_timeout(wait)?;
+            stream.set_write_timeout(wait)?;
             Ok(Stream::Tcp(stream))
+        }
+    }
+}
+
+/// Says on standard error why a link that was made at the address failed: where its stream waits for so many seconds alone
+/// and they passed, that no reply came.
+fn tell_link_reason<R: Eprint>(
+    runtime: &R,
+    address: &Address,
+    within: Option<u32>,
+    reason: &Error,
+) {
+    let Some(seconds) = within else {
+        return tell_address_reason(runtime, address, reason);
+    };
+    if reason.kind() != ErrorKind::WouldBlock {
+        return tell_address_reason(runtime, address, reason);
+    }
+    match address {
+        Address::Unix(path) => {
+            if let Ok(path) = str::from_utf8(path.bytes()) {
+                let _told = eprintln!(runtime; "taskflow: {path}: no reply within {seconds} s");
+            }
+        }
+        Address::Tcp(port) => {
+            let _told = eprintln!(runtime;
+                "taskflow: 127.0.0.1:{port}: no reply within {seconds} s"
+            );
         }
     }
 }
@@ -354,22 +420,58 @@ fn tell_address_reason<R: Eprint>(runtime: &R, address: &Address, reason: &Error
     }
 }
 
-/// A socket that waits at the address.
+/// A socket that waits at the address, and whose file, if it has one, has this mode.
 fn open<R: Net<Listener = TcpListener, Stream = TcpStream> + Files>(
     runtime: &R,
     address: &Address,
+    mode: u32,
 ) -> io::Result<Listener> {
     match address {
         Address::Unix(path) => {
             let Ok(path) = str::from_utf8(path.bytes()) else {
                 return Err(Error::from(ErrorKind::InvalidInput));
             };
-            Ok(Listener::Unix(UnixListener::bind(runtime, path)?))
+            let listener = bind(runtime, path)?;
+            if let Err(reason) = fs::set_permissions(runtime, path, Permissions::from_mode(mode)) {
+                let _gone = fs::remove_file(runtime, path);
+                return Err(reason);
+            }
+            Ok(Listener::Unix(listener))
         }
         Address::Tcp(port) => {
             let here = SocketAddrV4::new(Ipv4Addr::LOCALHOST, *port);
             Ok(Listener::Tcp(TcpListener::bind(runtime, here)?))
         }
+    }
+}
+
+/// A Unix socket that waits at the path, in place of one at which nobody answers.
+fn bind<R: Net + Files>(runtime: &R, path: &str) -> io::Result<UnixListener> {
+    match UnixListener::bind(runtime, path) {
+        Ok(listener) => Ok(listener),
+        Err(reason) => {
+            if reason.kind() != ErrorKind::AddrInUse || !is_left_over(runtime, path) {
+                return Err(reason);
+            }
+            fs::remove_file(runtime, path)?;
+            UnixListener::bind(runtime, path)
+        }
+    }
+}
+
+/// Whether a Unix socket is at the path at which nobody answers.
+fn is_left_over<R: Net + Files>(runtime: &R, path: &str) -> bool {
+    match fs::symlink_metadata(runtime, path) {
+        Ok(found) => {
+            if !found.file_type().is_socket() {
+                return false;
+            }
+        }
+        Err(_) => return false,
+    }
+    match UnixStream::connect(runtime, path) {
+        Ok(_) => false,
+        Err(reason) => reason.kind() == ErrorKind::ConnectionRefused,
     }
 }
 

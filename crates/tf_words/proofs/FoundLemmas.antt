@@ -21,7 +21,7 @@ use Rattle.clap.proofs.FaultLemmas.{leaf_fault}
 use Rattle.clap.proofs.WalkLemmas.{raw_values-rows}
 use Rattle.tf_values.specs.Text.{is_text}
 use Rattle.tf_words.specs.Held.{held_by}
-use Rattle.tf_words.specs.Verbs.{Form, Piece, are_filled, is_filled, pieces, said_by, takes_value, values_in, same_word}
+use Rattle.tf_words.specs.Verbs.{Form, Piece, are_filled, is_filled, pieces, read_by, takes_value, values_in, same_word}
 use Rattle.tf_words.specs.Table.{table}
 use Rattle.tf_words.proofs.RuleLemmas.{built_table, rule_of_form, place_rule, rules_for, shape_for, simple_table}
 use Rattle.tf_words.proofs.WalkLemmas.{final, noted, told, unless}
@@ -163,13 +163,13 @@ module _ (forms : List Form) (words : List (List ℕ)) (named : takes_value form
   found_rows : unless (fault_of (table forms) words) (matches_of (table forms) words) ≡ told [] (pieces forms None words)
   found_rows = library_is forms words ∙ found_is forms named words (filled_utf8 words filled)
 
-  faultless_read : (matches : ArgMatches) → fault_of (table forms) words ≡ [] → rows_of (found_of matches) ≡ matches_of (table forms) words → Some (held_by matches) ≡ said_by forms words
+  faultless_read : (matches : ArgMatches) → fault_of (table forms) words ≡ [] → rows_of (found_of matches) ≡ matches_of (table forms) words → Some (held_by matches) ≡ read_by forms words
   faultless_read matches faultless is =
       let rows : Some (rows_of (found_of matches)) ≡ told [] (pieces forms None words) = (λ i. unless (sym faultless i) (is i)) ∙ found_rows in
       let found = told_some (pieces forms None words) (rows_of (found_of matches)) rows in
       ap Some (held_is matches found.0 found.2) ∙ sym (ap (option_map values_in) found.1)
 
-  faulty_refused : (faults : Kinds) (kind_is : ErrorKind) → IsAmong kind_is faults → fault_of (table forms) words ≡ faults → None ≡ said_by forms words
+  faulty_refused : (faults : Kinds) (kind_is : ErrorKind) → IsAmong kind_is faults → fault_of (table forms) words ≡ faults → None ≡ read_by forms words
   faulty_refused [] kind_is among faulty = absurd among
   faulty_refused (first ∷ faults) kind_is among faulty =
       let rows : None ≡ told [] (pieces forms None words) = ap (λ (found : Kinds). unless found (matches_of (table forms) words)) (sym faulty) ∙ found_rows in
@@ -177,7 +177,7 @@ module _ (forms : List Form) (words : List (List ℕ)) (named : takes_value form
 
   -- the words are read where the library answers matches
   pub read_as_said : (app : App) (matches : ArgMatches) → app ≡ table forms → (is_simple_and_free app ≡ true → fault_of app (map (λ word. word) words) ≡ []) → HasMatchesOf app (map (λ word. word) words) matches
-      → Some (held_by matches) ≡ said_by forms words
+      → Some (held_by matches) ≡ read_by forms words
   read_as_said app matches is faultless has =
       let same : map (λ word. word) words ≡ words = map-id words in
       let simple : is_simple_and_free app ≡ true = ap is_simple_and_free is ∙ simple_table forms in
@@ -186,7 +186,7 @@ module _ (forms : List Form) (words : List (List ℕ)) (named : takes_value form
 
   -- they are not where it answers an error that is not want of memory
   pub refused_as_said : (app : App) (kind_is : ErrorKind) → app ≡ table forms → (kind_is ≡ kind.OutOfMemory → ⊥)
-      → (is_simple_and_free app ≡ true → (kind_is ≡ kind.OutOfMemory) ⊎ IsAmong kind_is (fault_of app (map (λ word. word) words))) → None ≡ said_by forms words
+      → (is_simple_and_free app ≡ true → (kind_is ≡ kind.OutOfMemory) ⊎ IsAmong kind_is (fault_of app (map (λ word. word) words))) → None ≡ read_by forms words
   refused_as_said app kind_is is not_memory faulty =
       let same : map (λ word. word) words ≡ words = map-id words in
       elim (faulty (ap is_simple_and_free is ∙ simple_table forms)) [

@@ -10,7 +10,7 @@ use Rattle.std.specs.Prelude.{IfSome, unwrap_or}
 use Rattle.tf_words.specs.Held.{texts_in}
 use Rattle.tf_numbers.proofs.TruthLemmas.{and_first, and_second, true_both}
 use Rattle.tf_values.specs.Text.{is_text}
-use Rattle.tf_words.specs.Verbs.{Halves, halves_of, longer, same_word, Form, Piece, Sort, said_by, alone, are_filled, behind_hyphens, ending, piece_before, is_filled, long, long_of, option_met, pieces, plain, short, sort_of, takes_value, value_met, values_in, word_met}
+use Rattle.tf_words.specs.Verbs.{Halves, halves_of, longer, same_word, Form, Piece, Sort, read_by, alone, are_filled, behind_hyphens, ending, piece_before, is_filled, long, long_of, option_met, pieces, plain, short, sort_of, takes_value, value_met, values_in, word_met}
 use Rattle.tf_words.proofs.PairLemmas.{text_behind}
 
 abbrev has_text : Piece → Bool
@@ -136,7 +136,7 @@ filled_texts (word ∷ words) filled =
     true_both (is_text word) (list_all is_text words) (and_second (not (length word == 0)) (is_text word) (and_first (is_filled word) (are_filled words) filled)) (filled_texts words (and_second (is_filled word) (are_filled words) filled))
 
 -- all that filled words give to a name
-pub said_texts : (forms : List Form) (words : List (List ℕ)) (said : List ℕ → List (List ℕ)) (name : List ℕ) → are_filled words ≡ true → Some said ≡ said_by forms words → All (λ text. is_text text ≡ true) (said name)
+pub said_texts : (forms : List Form) (words : List (List ℕ)) (said : List ℕ → List (List ℕ)) (name : List ℕ) → are_filled words ≡ true → Some said ≡ read_by forms words → All (λ text. is_text text ≡ true) (said name)
 said_texts forms words said name filled is = go (pieces forms None words) (pieces_texts forms words (filled_texts words filled) None) is
   where
     go : (found : Option (List Piece)) → AreTexts found → Some said ≡ option_map values_in found → All (λ text. is_text text ≡ true) (said name)

@@ -1,6 +1,6 @@
 -- What words stand for: values, numbers, and pairs of the form NAME=VALUE. Which command the first word chooses, and
 -- how the others are read as options and positional words.
-use Rattle.std.specs.Prelude.{ℕ, ◌+◌, ◌-◌, ◌*◌, List, [], ◌∷◌, ◌++◌, Bool, not, ◌&&◌, ◌||◌, ◌==◌, nat_lt, nat_le, Option, Some, None, option_map, unwrap_or, if◌then◌else◌, ℤ, pos, negsuc, ◌^◌, true, false, codes, length, position, map}
+use Rattle.std.specs.Prelude.{ℕ, ◌+◌, ◌-◌, ◌*◌, List, [], ◌∷◌, ◌++◌, Bool, not, ◌&&◌, ◌||◌, ◌==◌, nat_lt, nat_le, Option, Some, None, option_map, option_and_then, unwrap_or, if◌then◌else◌, ℤ, pos, negsuc, ◌^◌, true, false, codes, length, position, map}
 use Rattle.tf_values.specs.Text.{is_between, is_text, is_name}
 use Rattle.tf_words.specs.declared.quotes.Inside.{Inside}
 use Rattle.std.specs.List.{list_all}
@@ -15,6 +15,7 @@ use Rattle.tf_words.specs.declared.spelled.Quoting.{Quoting}
 use Rattle.tf_flow.specs.declared.atoms.Bind.{Bind}
 use Rattle.tf_words.specs.declared.verbs.Verb.{Verb}
 use Rattle.tf_words.specs.declared.verbs.Key.{Key}
+use Rattle.tf_words.specs.declared.sockets.Sockets.{Sockets}
 use Rattle.tf_words.specs.declared.quotes.Inside.TheVariants as at
 use Rattle.tf_values.specs.declared.elements.Scalar.TheVariants as scalar
 use Rattle.tf_values.specs.declared.value.Val.TheVariants as value
@@ -361,8 +362,33 @@ values_in (piece ∷ others) name =
     if same_word piece.name name then piece.value ∷ values_in others name else values_in others name
 
 -- the values that words give to the name of each option, and to the empty name as positional words
+abbrev pub read_by : List Form → List (List ℕ) → Option (List ℕ → List (List ℕ))
+read_by forms words = option_map values_in (pieces forms None words)
+
+-- ---- what concerns the sockets alone
+
+-- how many seconds a reply is waited for, if there is a bound
+abbrev pub within_in : Said → Option (Option ℕ)
+within_in said = once None (λ value. option_map Some (number_between 1 86400 value)) (said (codes "reply-within"))
+
+-- the mode of a socket's file that the word is: 0600, 0660 or 0666
+abbrev pub mode_named : List ℕ → Option ℕ
+mode_named word =
+    if same_word word (codes "0600") then Some 384
+    else if same_word word (codes "0660") then Some 432
+    else if same_word word (codes "0666") then Some 438
+    else None
+
+-- what the values say of the sockets: where they say nothing, a reply is waited for without a bound, and a socket's
+-- file is its user's alone
+abbrev pub sockets_in : Said → Option Sockets
+sockets_in said =
+    option_and_then (λ within. option_map (λ mode. record { within = within; mode = mode })
+    (once 384 mode_named (said (codes "mode")))) (within_in said)
+
+-- the values that words give, where those that concern the sockets are such
 abbrev pub said_by : List Form → List (List ℕ) → Option (List ℕ → List (List ℕ))
-said_by forms words = option_map values_in (pieces forms None words)
+said_by forms words = option_and_then (λ said. option_map (λ sockets. said) (sockets_in said)) (read_by forms words)
 
 -- ---- the commands, the words that choose them, and the options that they know
 
@@ -386,6 +412,14 @@ workers = record { name = codes "worker"; valued = true }
 abbrev pub stop_after : Form
 stop_after = record { name = codes "stop-after"; valued = true }
 
+-- `--reply-within SECONDS`
+abbrev pub reply_within : Form
+reply_within = record { name = codes "reply-within"; valued = true }
+
+-- `--mode MODE`
+abbrev pub mode_option : Form
+mode_option = record { name = codes "mode"; valued = true }
+
 -- `--target NAME`
 abbrev pub target : Form
 target = record { name = codes "target"; valued = true }
@@ -404,9 +438,9 @@ details = record { name = codes "details"; valued = true }
 
 -- the options that a command knows
 abbrev pub forms_of : Verb → List Form
-forms_of verb.Try = deferral ∷ hands ∷ workers ∷ target ∷ []
-forms_of verb.Run = deferral ∷ hands ∷ workers ∷ stop_after ∷ target ∷ []
-forms_of verb.Resume = hands ∷ workers ∷ stop_after ∷ []
+forms_of verb.Try = deferral ∷ hands ∷ workers ∷ reply_within ∷ target ∷ []
+forms_of verb.Run = deferral ∷ hands ∷ workers ∷ reply_within ∷ stop_after ∷ target ∷ []
+forms_of verb.Resume = hands ∷ workers ∷ reply_within ∷ stop_after ∷ []
 forms_of verb.Show = []
 forms_of verb.Reset = []
 forms_of verb.Details = []
@@ -414,13 +448,13 @@ forms_of verb.Migrate = []
 forms_of verb.Check = target ∷ []
 forms_of verb.Audit = deferral ∷ []
 forms_of verb.Demo = hands ∷ []
-forms_of verb.Worker = sessions ∷ []
+forms_of verb.Worker = sessions ∷ mode_option ∷ []
 forms_of verb.Conduct = hands ∷ []
 forms_of verb.Post = urgency ∷ details ∷ []
 forms_of (verb.Apply action) = []
 forms_of verb.Owner = []
 forms_of verb.List = []
-forms_of verb.Serve = sessions ∷ []
+forms_of verb.Serve = sessions ∷ mode_option ∷ []
 
 -- what the files of a command are picked for: to be read alone, to be read and made where they aren't there, or to be
 -- written
@@ -481,3 +515,10 @@ choice_of (first ∷ others) =
 -- what the files are picked for of the command that the words choose
 abbrev pub access_of : List (List ℕ) → Access
 access_of words = unwrap_or (option_map (λ choice. access_for choice.verb) (choice_of words)) access.Own
+
+-- what the command that the words choose says of the sockets, and else as where nothing is said
+abbrev pub sockets_of : List (List ℕ) → Sockets
+sockets_of words =
+    unwrap_or (if are_filled words then option_and_then
+    (λ choice. option_and_then sockets_in (read_by (forms_of choice.verb) choice.others)) (choice_of words) else None)
+    (record { within = None; mode = 384 })

@@ -2,7 +2,8 @@ ghost use Rattle.std.specs.Prelude.{◌≡◌, IfOk};
 ghost use Rattle.tf_words.specs.Words.{command_of};
 
 use crate::commands::asked_by;
-use crate::given::given_by;
+use crate::given::read_by;
+use crate::sockets::sockets_in;
 use crate::verbs::{Choice, chosen_in, keys_of};
 use crate::word::{Word, are_filled};
 use std::alloc::Global;
@@ -113,8 +114,11 @@ pub fn read_words(alloc: Global, words: &[Word]) -> Result<Option<Asked>, Memory
     let Some(Choice { verb, others }) = chosen_in(words) else {
         return Ok(None);
     };
-    match given_by(alloc, keys_of(verb), others)? {
-        Some(given) => asked_by(alloc, verb, &given),
-        None => Ok(None),
+    let Some(given) = read_by(alloc, keys_of(verb), others)? else {
+        return Ok(None);
+    };
+    if sockets_in(&given).is_none() {
+        return Ok(None);
     }
+    asked_by(alloc, verb, &given)
 }

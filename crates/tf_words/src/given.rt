@@ -1,7 +1,7 @@
 ghost use Rattle.std.specs.Prelude.{◌≡◌, ℕ, List, IfOk, IfSome, Some, None, [], map, option_map, unwrap_or, true};
 ghost use Rattle.std.specs.List.{All};
 ghost use Rattle.tf_values.specs.Text.{is_text};
-ghost use Rattle.tf_words.specs.Verbs.{are_filled, said_by, takes_value, form_of, once};
+ghost use Rattle.tf_words.specs.Verbs.{are_filled, read_by as read_by_forms, takes_value, form_of, once};
 ghost use Rattle.tf_words.specs.Held.{held_by, texts_in};
 
 use crate::parsing::parsed;
@@ -20,7 +20,7 @@ pub struct Given<'a> {
 
 /// What the words behind those that choose a command give, where they are options that stand in the table and
 /// positional words.
-pub fn given_by<'a>(
+pub fn read_by<'a>(
     alloc: Global,
     keys: &'static [Key],
     words: &'a [Word],
@@ -28,7 +28,7 @@ pub fn given_by<'a>(
     requires filled { are_filled words.now ≡ true }
     requires named { takes_value (map form_of keys.now) [] ≡ None }
     ensures { IfOk result (λ given. option_map (λ given. held_by given.matches) given
-        ≡ said_by (map form_of keys.now) words.now) }
+        ≡ read_by_forms (map form_of keys.now) words.now) }
 {
     match parsed(alloc, keys, words)? {
         Some(matches) => Ok(Some(Given { matches })),

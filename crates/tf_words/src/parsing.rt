@@ -1,7 +1,7 @@
 ghost use Rattle.std.specs.Prelude.{◌≡◌, [], IfOk, None, Some, map, option_map, true, false};
 ghost use Rattle.clap.specs.Words.{app_of, rule_of};
 ghost use Rattle.tf_words.specs.Held.{held_by};
-ghost use Rattle.tf_words.specs.Verbs.{are_filled, said_by, takes_value, form_of};
+ghost use Rattle.tf_words.specs.Verbs.{are_filled, read_by, takes_value, form_of};
 ghost use Rattle.tf_words.specs.Table.{table, option_rule, positional_rule};
 
 use crate::verbs::Key;
@@ -19,7 +19,7 @@ pub fn parsed<'a>(
 ) -> Result<Option<ArgMatches<'a>>, Memory>
     requires filled { are_filled words.now ≡ true }
     requires named { takes_value (map form_of keys.now) [] ≡ None }
-    ensures { IfOk result (λ found. option_map held_by found ≡ said_by (map form_of keys.now) words.now) }
+    ensures { IfOk result (λ found. option_map held_by found ≡ read_by (map form_of keys.now) words.now) }
 {
     let command = command_with(alloc, keys)?;
     match command.try_get_matches_from(words) {

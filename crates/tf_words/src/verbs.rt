@@ -62,6 +62,16 @@ const STOP_AFTER: Key = Key {
     valued: true,
 };
 
+const REPLY_WITHIN: Key = Key {
+    name: "reply-within",
+    valued: true,
+};
+
+const MODE: Key = Key {
+    name: "mode",
+    valued: true,
+};
+
 const TARGET: Key = Key {
     name: "target",
     valued: true,
@@ -82,11 +92,18 @@ const DETAILS: Key = Key {
     valued: true,
 };
 
-static TRY: [Key; 4] = [DEFER_REVERTS, HANDS, WORKERS, TARGET];
+static TRY: [Key; 5] = [DEFER_REVERTS, HANDS, WORKERS, REPLY_WITHIN, TARGET];
 
-static RUN: [Key; 5] = [DEFER_REVERTS, HANDS, WORKERS, STOP_AFTER, TARGET];
+static RUN: [Key; 6] = [
+    DEFER_REVERTS,
+    HANDS,
+    WORKERS,
+    REPLY_WITHIN,
+    STOP_AFTER,
+    TARGET,
+];
 
-static RESUME: [Key; 3] = [HANDS, WORKERS, STOP_AFTER];
+static RESUME: [Key; 4] = [HANDS, WORKERS, REPLY_WITHIN, STOP_AFTER];
 
 static CHECK: [Key; 1] = [TARGET];
 
@@ -94,7 +111,7 @@ static AUDIT: [Key; 1] = [DEFER_REVERTS];
 
 static DEMO: [Key; 1] = [HANDS];
 
-static WORKER: [Key; 1] = [SESSIONS];
+static WORKER: [Key; 2] = [SESSIONS, MODE];
 
 static CONDUCT: [Key; 1] = [HANDS];
 

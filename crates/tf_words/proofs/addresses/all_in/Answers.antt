@@ -1,4 +1,4 @@
-use Rattle.std.proofs.Common.{◌+◌, ◌-◌, ◌∙◌, sym, arith}
+use Rattle.std.proofs.Common.{◌+◌, ◌∙◌, sym, arith}
 use Rattle.tf_words.proofs.AddressLemmas.{comma_met, byte_met}
 use Rattle.tf_words.proofs.addresses.all_in.Goals.{then-byte-eq44+in_ok-address+in-Some+in_ok-push, else-byte-eq44}
 use Rattle.tf_words.proofs.addresses.all_in.Goals as goal

@@ -2,7 +2,7 @@ use Rattle.std.proofs.Common.{sym, ◌∙◌, ap, map, option_map}
 use Rattle.tf_words.specs.Held.{held_by}
 use Rattle.tf_words.specs.Verbs.{form_of}
 use Rattle.tf_words.proofs.TextLemmas.{said_texts}
-use Rattle.tf_words.proofs.given.given_by.Goals as goal
+use Rattle.tf_words.proofs.given.read_by.Goals as goal
 
 pub invariant_of-result : goal.invariant_of-result
 invariant_of-result c = record {
