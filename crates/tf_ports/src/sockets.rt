@@ -432,7 +432,11 @@ fn open<R: Net<Listener = TcpListener, Stream = TcpStream> + Files>(
                 return Err(Error::from(ErrorKind::InvalidInput));
             };
             let listener = bind(runtime, path)?;
-            if let Err(reason) = fs::set_permissions(runtime, path, Permissions::from_mode(mode)) {
+            if let Err(reason) = fs::set_permissions(
+                runtime,
+                path,
+                <Permissions as PermissionsExt>::from_mode(mode),
+            ) {
                 let _gone = fs::remove_file(runtime, path);
                 return Err(reason);
             }
@@ -463,7 +467,7 @@ fn bind<R: Net + Files>(runtime: &R, path: &str) -> io::Result<UnixListener> {
 fn is_left_over<R: Net + Files>(runtime: &R, path: &str) -> bool {
     match fs::symlink_metadata(runtime, path) {
         Ok(found) => {
-            if !found.file_type().is_socket() {
+            if !FileTypeExt::is_socket(&found.file_type()) {
                 return false;
             }
         }
